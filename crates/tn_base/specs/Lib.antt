@@ -1,0 +1,2 @@
+pub mod Regs
+pub mod Shape
