@@ -1,7 +1,7 @@
 //! The numbers of a machine.
 
-ghost use Rattle.std.specs.Prelude.{◌≡◌, ◌≤◌, IsTrue};
-ghost use Rattle.tn_base.specs.Shape.{within, shape_of, first_fault, thread_count, is_shape};
+ghost use Rattle.std.specs.Prelude.{◌≡◌, ◌≤◌};
+ghost use Rattle.tn_base.specs.Shape.{within, shape_of, first_fault, thread_count, WithinLimits};
 
 use std::marker::Model;
 
@@ -150,7 +150,7 @@ impl Shape {
     /// The numbers that the machine is made of.
     pub fn numbers(&self) -> ShapeNumbers
         ensures value { result ≡ self.now }
-        ensures within { IsTrue (is_shape self.now) }
+        ensures limits { WithinLimits self.now }
     {
         self.numbers
     }
