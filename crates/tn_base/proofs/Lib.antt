@@ -1,2 +1,3 @@
-pub mod Products
 pub mod Limits
+pub mod Places
+pub mod Products

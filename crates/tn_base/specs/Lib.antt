@@ -1,2 +1,3 @@
+pub mod Address
 pub mod Regs
 pub mod Shape

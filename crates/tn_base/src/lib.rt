@@ -4,9 +4,11 @@
 //! crates cite, stand in `specs/Shape.antt`. Read `Shape::of` first.
 #![tactic(auto)]
 
+pub mod address;
 pub mod effect;
 pub mod event;
 pub mod ids;
+pub mod laws;
 pub mod regs;
 pub mod shape;
 #[cfg(test)]

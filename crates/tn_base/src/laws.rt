@@ -1,0 +1,16 @@
+//! Laws of the machine's names. A law answers nothing: its contract is what it says.
+
+ghost use Rattle.std.specs.Prelude.{◌≡◌, ◌<◌, ℕ, IsTrue};
+ghost use Rattle.tn_base.specs.Address.{has_thread, thread_at};
+ghost use Rattle.tn_base.specs.Shape.{thread_count};
+
+use crate::shape::Shape;
+
+/// `Shape::thread_at` lists exactly the threads of the machine, by ascending address.
+pub fn law_threads(shape: &Shape)
+    ensures listed { (i : ℕ) → i < thread_count shape.now → IsTrue (has_thread shape.now (thread_at shape.now i)) }
+    ensures ascending { (i j : ℕ) → i < j → j < thread_count shape.now → thread_at shape.now i < thread_at shape.now j }
+    ensures each { (a : ℕ) → IsTrue (has_thread shape.now a) → (i : ℕ) × (i < thread_count shape.now) × (thread_at shape.now i ≡ a) }
+{
+    let _numbers = shape.limited();
+}
