@@ -1,3 +1,4 @@
 pub mod Limits
+pub mod Masks
 pub mod Places
 pub mod Products

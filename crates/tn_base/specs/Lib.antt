@@ -1,3 +1,6 @@
 pub mod Address
+pub mod Bytes
+pub mod Mask
+pub mod Message
 pub mod Regs
 pub mod Shape

@@ -5,10 +5,14 @@
 #![tactic(auto)]
 
 pub mod address;
+pub mod bytes;
 pub mod effect;
 pub mod event;
 pub mod ids;
 pub mod laws;
+pub mod mask;
+pub mod message;
+pub mod op;
 pub mod regs;
 pub mod shape;
 #[cfg(test)]
