@@ -62,7 +62,7 @@ impl Shape {
 }
 
 /// The lowest digit of a number, of `count` values, and what the digits above it say.
-fn split(number: u32, count: u32) -> (u32, u32)
+pub(crate) fn split(number: u32, count: u32) -> (u32, u32)
     requires { 0 < count }
     ensures digit { result.0 ≡ number % count }
     ensures below { result.0 < count }

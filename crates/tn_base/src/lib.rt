@@ -10,9 +10,11 @@ pub mod effect;
 pub mod event;
 pub mod ids;
 pub mod laws;
+mod links;
 pub mod mask;
 pub mod message;
 pub mod op;
+pub mod part;
 pub mod regs;
 pub mod shape;
 #[cfg(test)]
