@@ -40,7 +40,7 @@ impl Shape {
     }
 
     /// The machine's numbers, of which each is within its limits.
-    pub(crate) fn limited(&self) -> ShapeNumbers
+    fn limited(&self) -> ShapeNumbers
         ensures value { result ≡ self.now }
         ensures limits { WithinLimits self.now }
         ensures few { thread_count self.now ≤ 16384 }

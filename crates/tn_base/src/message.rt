@@ -132,3 +132,6 @@ impl Shape {
         named < past
     }
 }
+
+#[cfg(test)]
+mod tests;
