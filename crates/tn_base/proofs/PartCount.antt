@@ -1,5 +1,5 @@
 -- How many parts there are, by kind.
-use Rattle.std.proofs.Common.{ℕ, ◌≡◌, ◌+◌, ◌++◌, List, length, map, arith, length-append}
+use Rattle.std.proofs.Common.{◌≡◌, ◌+◌, List, length, map, arith, length-append}
 use Rattle.std.specs.List.{range_with_len}
 use Rattle.tn_base.specs.declared.shape.ShapeNumbers.{ShapeNumbers}
 use Rattle.tn_base.specs.declared.part.Kind.{Kind}

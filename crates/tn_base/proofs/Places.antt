@@ -1,7 +1,7 @@
 -- A number by its digits, and the address that has the same digits at places of their own: one rises with the other.
-use Rattle.std.proofs.Common.{ℕ, ◌≡◌, ◌≤◌, ◌<◌, ◌+◌, ◌*◌, ◌/◌, ◌%◌, ◌&&◌, Bool, true, refl, arith, nat_lt, eqb, IsTrue, ◌⊎◌, inl, inr, sym, ap}
+use Rattle.std.proofs.Common.{ℕ, ◌≡◌, ◌≤◌, ◌<◌, ◌+◌, ◌*◌, ◌/◌, ◌%◌, ◌&&◌, Bool, true, refl, arith, nat_lt, eqb, inl, inr, ap}
 use Rattle.std.proofs.lemmas.Nat.{div-mul-add, mod-mul-add, div_below, div-add-mod', mod_below, mul-add-lt}
-use Rattle.std.proofs.Math.Nat.{mul-le-mul_left, mul-le-mul_right}
+use Rattle.std.proofs.Math.Nat.{mul-le-mul_right}
 use Rattle.std.proofs.lemmas.Bool.{and_parts, cases_order}
 use Rattle.std.proofs.lemmas.Bool.Decides.{nat_tests}
 use Rattle.std.proofs.lemmas.Bool.{ltb-true, lt-ltb, eqb-true}
@@ -72,17 +72,17 @@ orders_more w m count others test pos few o = record {
 -- the address of a tile is that of its digits, with six zero bits below
 orders_shifted : (count : ℕ) (others : ℕ → ℕ) (test : ℕ → Bool) → Orders others count test → Orders (λ i. others i * 64) count (λ a. test (a / 64) && eqb (a % 64) 0)
 orders_shifted count others test o = record {
-    there = λ i h.
+  there = λ i h.
       let high : others i * 64 / 64 ≡ others i = omega arith in
       let low : others i * 64 % 64 ≡ 0 = omega arith in
       and_both (test (others i * 64 / 64)) (eqb (others i * 64 % 64) 0) (rw high (o.there i h)) (rw low refl);
-    rising = λ i j h k. omega (arith, o.rising i j h k);
-    each = λ a t.
+  rising = λ i j h k. omega (arith, o.rising i j h k);
+  each = λ a t.
       let parts = and_parts (test (a / 64)) (eqb (a % 64) 0) t in
       let got = o.each (a / 64) parts.0 in
       let low : a % 64 ≡ 0 = eqb-true _ _ parts.1 in
       (got.0, got.1, omega (arith, got.2));
-  }
+}
 
 -- the last digit stands for itself
 orders_last : (count : ℕ) → Orders (λ i. i) count (λ a. nat_lt a count)
@@ -133,11 +133,11 @@ tile_fields_of n a l h = grind (arith, nat_tests)
 pub orders_tiles : (n : ShapeNumbers) → WithinLimits n → Orders (tile_at n) (tile_count n) (has_tile n)
 orders_tiles n l =
     let o : Orders (tile_at n) (n.tiles_x * (n.tiles_y * (n.boards_x * n.boards_y))) (tile_by_digits n) =
-      orders_shifted _ _ _
-      (orders_more 4 n.tiles_x _ _ _ (omega arith) (omega arith)
-      (orders_more 4 n.tiles_y _ _ _ (omega arith) (omega arith)
-      (orders_more 4 n.boards_x _ _ _ (omega arith) (omega arith)
-      (orders_last n.boards_y)))) in
+    orders_shifted _ _ _
+    (orders_more 4 n.tiles_x _ _ _ (omega arith) (omega arith)
+    (orders_more 4 n.tiles_y _ _ _ (omega arith) (omega arith)
+    (orders_more 4 n.boards_x _ _ _ (omega arith) (omega arith)
+    (orders_last n.boards_y)))) in
     record {
       there = λ i h. tile_fields_of n _ l (o.there i (omega arith));
       rising = λ i j h k. o.rising i j h (omega arith);

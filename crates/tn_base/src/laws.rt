@@ -1,10 +1,13 @@
 //! Laws of the machine's names. A law answers nothing: its contract is what it says.
 
-ghost use Rattle.std.specs.Prelude.{◌≡◌, ◌<◌, ℕ, IsTrue};
+ghost use Rattle.std.specs.Prelude.{◌≡◌, ◌<◌, ◌↔◌, ◌/◌, ◌%◌, ℕ, IsTrue};
+ghost use Rattle.std.specs.Int.{bit_at};
 ghost use Rattle.tn_base.specs.Address.{has_thread, has_tile, thread_at};
+ghost use Rattle.tn_base.specs.Mask.{names_threads};
 ghost use Rattle.tn_base.specs.Parts.{tile_at, tile_count};
 ghost use Rattle.tn_base.specs.Shape.{thread_count};
 
+use crate::mask::Mask;
 use crate::shape::Shape;
 
 /// `Shape::thread_at` lists exactly the threads of the machine, by ascending address.
@@ -24,3 +27,9 @@ pub fn law_tiles(shape: &Shape)
 {
     let _numbers = shape.numbers();
 }
+
+/// A mask names only threads of the machine exactly where each of its bits, core * 16 + thread, is one.
+pub fn law_names_threads(shape: &Shape, mask: Mask)
+    ensures { IsTrue (names_threads shape.now mask) ↔
+        ((b : ℕ) → b < 64 → bit_at mask b ≡ 1 → (b % 16 < shape.now.threads) × (b / 16 < shape.now.cores)) }
+{}

@@ -169,7 +169,10 @@ impl Shape {
         links.push_if(board.x + 1 < n.boards_x, link_kind(here, here + 1));
         links.push_if(0 < board.x, link_kind(here, here - 1));
         links.push_if(board.y + 1 < n.boards_y, link_kind(here, here + n.boards_x));
-        links.push_if(0 < board.y, link_kind(here, here.saturating_sub(n.boards_x)));
+        links.push_if(
+            0 < board.y,
+            link_kind(here, here.saturating_sub(n.boards_x)),
+        );
         links
     }
 

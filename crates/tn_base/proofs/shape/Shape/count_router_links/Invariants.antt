@@ -5,6 +5,6 @@ use Rattle.tn_base.proofs.shape.Shape.count_router_links.Given as goal
 
 abbrev pub invariant-loop-board : goal.invariant-loop-board
 invariant-loop-board l = record {
-    counted : l.count + length_from (router_links l.self) l.board (board_count l.self) ≡ length (all_router_links l.self);
-    few : l.count ≤ 5 * l.board;
-  }
+  counted : l.count + length_from (router_links l.self) l.board (board_count l.self) ≡ length (all_router_links l.self);
+  few : l.count ≤ 5 * l.board;
+}
