@@ -1,5 +1,5 @@
 -- What holds of every pool holds after each operation.
-use Rattle.std.proofs.Common.{ℕ, ◌+◌, ◌*◌, ◌<◌, ◌≤◌, ◌≡◌, ◌≢◌, ◌^◌, ◌%◌, true, List, [], ◌∷◌, ◌++◌, length, get_or, set, drop, zero, suc, refl, sym, ◌∙◌, ap, subst, inl, inr, arith, sum_by, length-set, length-append, Some, None, option_map, replicate, map}
+use Rattle.std.proofs.Common.{ℕ, ◌+◌, ◌*◌, ◌<◌, ◌≤◌, ◌≡◌, ◌≢◌, ◌^◌, ◌%◌, true, List, [], ◌∷◌, ◌++◌, length, get_or, set, drop, zero, suc, refl, sym, ◌∙◌, ap, inl, inr, arith, sum_by, length-set, length-append, Some, None, option_map, replicate, map}
 use Rattle.std.specs.Int.{bit_at, bit_not, w64}
 use Rattle.std.proofs.lemmas.Nat.{and_le_l, or_lt, pow_pos}
 use Rattle.std.proofs.lemmas.Nat.Bits.{bit_at-lt, bit_at-zero, bit_at-pow_same}
@@ -15,7 +15,7 @@ use Rattle.std.proofs.lemmas.List.Folds.{sum_by-replicate}
 use Rattle.tn_slots.specs.declared.slot.Slot.{Slot}
 use Rattle.tn_slots.specs.PoolModel.{PoolModel}
 use Rattle.tn_slots.specs.Slot.{empty_slot, fresh_slot, freed_slot, is_free, left_slot, taken_slot}
-use Rattle.tn_slots.specs.Queues.{appended, first_of}
+use Rattle.tn_slots.specs.Queues.{first_of}
 use Rattle.tn_slots.specs.Pool.{Holds, first_free, freed, fresh, key_for, key_in, left, put_at, queue_at, slot_at, taken, taken_from}
 use Rattle.tn_slots.specs.WellKept.{WellKept, times}
 use Rattle.tn_slots.proofs.Lists.{bit_cases, both_true, is_zero, kept_by_set, map_each, replicate_each, set_each, times_first, times_other, times_push_other, times_push_same}

@@ -1,9 +1,11 @@
 -- Lists of which one element is changed, and how often a number stands in a list.
-use Rattle.std.proofs.Common.{ℕ, ◌+◌, ◌<◌, ◌≤◌, ◌≡◌, ◌⊎◌, ◌==◌, ◌&&◌, Bool, true, false, cond, List, [], ◌∷◌, ◌++◌, get_or, set, map, replicate, zero, suc, refl, ◌∙◌, inl, inr, arith}
+use Rattle.std.proofs.Common.{ℕ, ◌+◌, ◌<◌, ◌≤◌, ◌≡◌, ◌⊎◌, ◌==◌, ◌&&◌, Bool, true, false, cond, List, [], ◌∷◌, ◌++◌, length, None, get_or, set, map, replicate, zero, suc, refl, inl, inr, arith}
 use Rattle.std.specs.Int.{bit_at}
 use Rattle.std.proofs.lemmas.Nat.Bits.{bit_at-lt}
 use Rattle.std.proofs.lemmas.Bool.{cases_eq, eq-eqb, ne_eqb}
-use Rattle.std.proofs.lemmas.List.Sums.{sum_by-cons, sum_by_push}
+use Rattle.std.proofs.lemmas.Grind.{common_steps}
+use Rattle.std.proofs.lemmas.List.Sums.{fails_before_first, sum_by-cons, sum_by_push}
+use Rattle.std.specs.List.{position, position_or_len}
 use Rattle.tn_slots.specs.WellKept.{times}
 
 -- an element is changed so that g cannot tell: g of each place is as it was
@@ -61,3 +63,9 @@ both_true false b h = absurd cc
 
 pub is_zero : (n : ℕ) → (n == 0) ≡ true → n ≡ 0
 is_zero n h = elim (cases_eq n 0) [ inl e ↦ e | inr ne ↦ absurd (let f = ne_eqb n 0 ne in cc) ]
+
+-- where nothing is found, nothing passes the test
+pub position_none : {X : Type 0} (p : X → Bool) (xs : List X) (i : ℕ) (d : X) → position p xs ≡ None → i < length xs → p (get_or xs i d) ≡ false
+position_none p xs i d e h =
+    let past : length xs ≤ position_or_len p xs = grind (arith, common_steps) in
+    fails_before_first p xs i d (omega arith)

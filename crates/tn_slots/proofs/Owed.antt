@@ -1,5 +1,5 @@
 -- The queues of a pool's threads, after what is done to one or all of them.
-use Rattle.std.proofs.Common.{ℕ, ◌+◌, ◌<◌, ◌≤◌, ◌≡◌, ◌==◌, List, [], ◌∷◌, ◌++◌, length, get_or, set, take, drop, map, replicate, zero, suc, refl, sym, ◌∙◌, ap, arith, length-set, below_more, Some, None}
+use Rattle.std.proofs.Common.{ℕ, ◌+◌, ◌<◌, ◌≤◌, ◌≡◌, List, [], ◌∷◌, ◌++◌, length, get_or, set, take, drop, map, replicate, zero, suc, refl, sym, ◌∙◌, ap, arith, length-set, below_more, Some, None}
 use Rattle.std.specs.Int.{bit_at}
 use Rattle.std.proofs.lemmas.Bool.{eq-eqb, ne_eqb}
 use Rattle.std.proofs.lemmas.List.{get_or-set_same, get_or-set_other, get_or_default, ext_get_or, get_or-map, map-set, map-append, map_more, length-map, length-replicate}
@@ -79,10 +79,10 @@ pub appended_all : (mask s : ℕ) (old now : List QueueModel) → Appended mask 
 appended_all mask s old now a =
     let long : length (map slots_of now) ≡ length old = length-map now slots_of ∙ a.long in
     ext_get_or [] (map slots_of now) (appended mask s (map slots_of old)) (long ∙ sym (length-appended mask s (map slots_of old) ∙ length-map old slots_of))
-        (λ k h. let below : k < length old = omega arith in
-            let here : k < length now = let l = a.long in omega arith in
-            let there : k < length (map slots_of old) = let l = length-map old slots_of in omega arith in
-            get_or-map slots_of now k no_queue [] here ∙ (a.done k below ∙ (ap (put_in_queue mask s k) (sym (get_or-map slots_of old k no_queue [] below)) ∙ sym (appended_at mask s (map slots_of old) k there))))
+    (λ k h. let below : k < length old = omega arith in
+    let here : k < length now = let l = a.long in omega arith in
+    let there : k < length (map slots_of old) = let l = length-map old slots_of in omega arith in
+    get_or-map slots_of now k no_queue [] here ∙ (a.done k below ∙ (ap (put_in_queue mask s k) (sym (get_or-map slots_of old k no_queue [] below)) ∙ sym (appended_at mask s (map slots_of old) k there))))
 
 pub room_appended : (mask s t room : ℕ) (old now : List QueueModel) → Appended mask s t old now → HasRoom room old → HasRoom room now
 room_appended mask s t room old now a has = record {

@@ -1,5 +1,5 @@
 -- What each call makes of a pool.
-use Rattle.std.specs.Prelude.{ℕ, ◌+◌, ◌*◌, ◌<◌, ◌≡◌, ◌==◌, List, [], ◌∷◌, length, map, replicate, position, slice_index, slice_index_or, slice_set, if◌then◌else◌, true, false, option_map, Option, Some, None}
+use Rattle.std.specs.Prelude.{ℕ, ◌+◌, ◌*◌, ◌≡◌, ◌==◌, List, [], ◌∷◌, map, replicate, position, slice_index, slice_index_or, slice_set, if◌then◌else◌, option_map, Option, Some, None}
 use Rattle.std.specs.Int.{bit_at}
 use Rattle.tn_slots.specs.declared.slot.Slot.{Slot}
 use Rattle.tn_slots.specs.PoolModel.{PoolModel}

@@ -21,3 +21,8 @@ pub record WellKept (p : PoolModel) : Type 0 where
   pub named : (s : ℕ) → ((slot_at p s).owed < 2 ^ length p.queues) × ((slot_at p s).holders < 2 ^ length p.queues)
   -- a message is no longer than a slot
   pub fits : (s : ℕ) → length (slot_at p s).bytes ≤ p.slot_bytes
+
+-- no thread of the pool is owed slot s or holds it
+pub record Unused (p : PoolModel) (s : ℕ) : Type 0 where
+  pub not_owed : (t : ℕ) → t < length p.queues → bit_at (slot_at p s).owed t ≡ 0
+  pub not_held : (t : ℕ) → t < length p.queues → bit_at (slot_at p s).holders t ≡ 0

@@ -4,6 +4,9 @@
 //! Read `Pool::put` first.
 #![tactic(auto)]
 
+pub mod laws;
 pub mod pool;
-pub mod queues;
+mod queues;
 pub mod slot;
+#[cfg(test)]
+mod tests;

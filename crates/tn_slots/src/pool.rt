@@ -108,8 +108,8 @@ impl Pool {
         if !self.holds(t, slot) {
             return Err(NotHeld);
         }
-        let slot = &mut self.slots[slot as usize];
-        slot.holders = slot.holders.without(t);
+        let held = &mut self.slots[slot as usize];
+        held.holders = held.holders.without(t);
         Ok(())
     }
 
@@ -206,10 +206,31 @@ impl Pool {
 
     /// The slots in order.
     pub fn slots(&self) -> &[Slot]
-        ensures slots { result.now ≡ self.now.slots }
-        ensures kept { WellKept self.now }
+        ensures { result.now ≡ self.now.slots }
     {
         &self.slots
+    }
+
+    /// How many threads the pool has.
+    pub fn thread_count(&self) -> u32
+        ensures value { result ≡ length self.now.queues }
+        ensures few { result ≤ 64 }
+    {
+        self.queues.count() as u32
+    }
+
+    /// The most bytes of a message.
+    pub fn slot_bytes(&self) -> u32
+        ensures { result ≡ self.now.slot_bytes }
+    {
+        self.slot_bytes
+    }
+
+    /// Tells what holds of every pool.
+    pub fn kept(&self)
+        ensures { WellKept self.now }
+    {
+        let _slots = &self.slots;
     }
 
     /// The same pool.

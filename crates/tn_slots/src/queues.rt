@@ -134,6 +134,12 @@ impl Queues {
         Ok(Queues { queues, room })
     }
 
+    pub(crate) fn count(&self) -> usize
+        ensures { result ≡ length self.now.queues }
+    {
+        self.queues.len()
+    }
+
     pub(crate) fn len(&self, t: u32) -> usize
         requires { t < length self.now.queues }
         ensures { result ≡ length (slice_index_or self.now.queues t []) }

@@ -1,4 +1,4 @@
-use Rattle.std.proofs.Common.{rules, ◌≡◌, ◌<◌, length, arith, inl, inr}
+use Rattle.std.proofs.Common.{rules, ◌≡◌, inl, inr}
 use Rattle.std.specs.Int.{bit_at}
 use Rattle.tn_slots.proofs.Lists.{bit_cases}
 use Rattle.tn_slots.proofs.Owed.{append_end, append_none, append_room, append_skip, append_step}

@@ -11,5 +11,5 @@ invariant_of-self c =
     let p : PoolModel = record { slots = c.self.inside.slots.items; queues = c.self.inside.queues.queues; slot_bytes = c.self.inside.slot_bytes } in
     let h : c.args.t < length c.self.inside.queues.queues = search rules in
     let held : Holds p c.args.t c.args.slot = search rules in
-    let read : c.index_mut-slot.result.now ≡ get_or c.self.inside.slots.items c.args.slot empty_slot = c.index_mut-slot.ensures.value ∙ get_or_default c.self.inside.slots.items c.args.slot _ _ (held_within p c.args.t c.args.slot held) in
-    (rw (c.without-slot.ensures, read) (freed_kept p c.args.t c.args.slot h held c.self.invariant.0), rw length-set c.self.invariant.1)
+    let read : c.index_mut-held.result.now ≡ get_or c.self.inside.slots.items c.args.slot empty_slot = c.index_mut-held.ensures.value ∙ get_or_default c.self.inside.slots.items c.args.slot _ _ (held_within p c.args.t c.args.slot held) in
+    (rw (c.without-held.ensures, read) (freed_kept p c.args.t c.args.slot h held c.self.invariant.0), rw length-set c.self.invariant.1)

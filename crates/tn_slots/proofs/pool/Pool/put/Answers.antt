@@ -1,4 +1,4 @@
-use Rattle.std.proofs.Common.{rules, arith, ◌≡◌, length, length-set, Some}
+use Rattle.std.proofs.Common.{rules, arith, ◌≡◌, length-set, Some}
 use Rattle.tn_slots.specs.PoolModel.{PoolModel}
 use Rattle.tn_slots.specs.Pool.{first_free}
 use Rattle.tn_slots.proofs.Kept.{first_free_is, put_kept, room_left}
