@@ -1,6 +1,6 @@
 //! What every link does.
 
-ghost use Rattle.std.specs.Prelude.{◌≡◌, ◌≤◌, IfOk, is_ok, is_some, length, option_copied, slice_get};
+ghost use Rattle.std.specs.Prelude.{◌≡◌, ◌≤◌, ◌↔◌, IfOk, IsTrue, is_ok, is_some, length, option_copied, slice_get};
 ghost use Rattle.tn_link.specs.Does.{Does};
 ghost use Rattle.tn_link.specs.LinkView.{LinkView};
 ghost use Rattle.tn_link.specs.LinkRows.{front_of, put_in, take_from};
@@ -45,4 +45,8 @@ pub trait Link: Drop {
     /// The same link.
     fn copy(&self) -> Result<Self, AllocError>
         ensures { IfOk result (λ r. content r ≡ content self.now) };
+
+    /// Whether the links hold the same packets and have the same capacity.
+    fn same(&self, other: &Self) -> bool
+        ensures { IsTrue result ↔ (content self.now ≡ content other.now) };
 }

@@ -1,6 +1,6 @@
 //! The link in memory.
 
-ghost use Rattle.std.specs.Prelude.{◌≡◌, ◌≤◌, [], IfOk, length};
+ghost use Rattle.std.specs.Prelude.{◌≡◌, ◌≤◌, ◌↔◌, [], IfOk, IsTrue, length};
 ghost use Rattle.std.specs.VecDeque.{deque_capacity};
 
 use crate::link::{Full, Link};
@@ -77,6 +77,10 @@ impl Link for PlainLink {
             capacity: self.capacity,
         })
     }
+
+    fn same(&self, other: &PlainLink) -> bool {
+        self.capacity == other.capacity && same_packets(&self.packets, &other.packets)
+    }
 }
 
 /// The same packets, in a ring with room for at least so many.
@@ -90,4 +94,26 @@ fn copy_ring(packets: &VecDeque<Packet>, room: usize) -> Result<VecDeque<Packet>
         all.push_back_reserved(packets[i].copy());
     }
     Ok(all)
+}
+
+/// Whether the packets are equal.
+fn same_packet(a: &Packet, b: &Packet) -> bool
+    ensures { IsTrue result ↔ (a.now ≡ b.now) }
+{
+    a.origin == b.origin && a.number == b.number && a.dest == b.dest && a.bytes == b.bytes
+}
+
+/// Whether the rings hold equal packets in the same order.
+fn same_packets(a: &VecDeque<Packet>, b: &VecDeque<Packet>) -> bool
+    ensures { IsTrue result ↔ (a.now.items ≡ b.now.items) }
+{
+    if a.len() != b.len() {
+        return false;
+    }
+    for i in 0..a.len() {
+        if !same_packet(&a[i], &b[i]) {
+            return false;
+        }
+    }
+    true
 }

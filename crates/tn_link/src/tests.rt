@@ -41,7 +41,9 @@ fn links(rt: HostRuntime) -> Result<(), Fail> {
     assert_eq!(rt; number(three.get(1)), Some(2));
     assert_eq!(rt; number(three.get(2)), None);
     let mut copied = three.copy()?;
+    assert!(rt; copied.same(&three));
     assert!(rt; three.take() == Some(first));
+    assert!(rt; !copied.same(&three));
     assert_eq!(rt; number(three.front()), Some(2));
     assert_eq!(rt; copied.capacity(), 3);
     assert_eq!(rt; number(copied.front()), Some(1));
