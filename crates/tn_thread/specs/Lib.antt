@@ -1,0 +1,5 @@
+pub mod Memory
+pub mod Registers
+pub mod SendSlot
+pub mod Sight
+pub mod Step
