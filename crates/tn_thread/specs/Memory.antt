@@ -1,5 +1,5 @@
 -- Bytes in memory: numbers of one, two or four bytes, the lowest byte first.
-use Rattle.std.specs.Prelude.{ℕ, ◌+◌, ◌-◌, ◌*◌, ◌/◌, ◌%◌, ◌≤◌, ◌==◌, ◌&&◌, ◌||◌, List, Bool, nat_le, slice_index, slice_set, if◌then◌else◌}
+use Rattle.std.specs.Prelude.{ℕ, ◌+◌, ◌-◌, ◌*◌, ◌/◌, ◌%◌, ◌==◌, ◌&&◌, ◌||◌, List, Bool, nat_lt, slice_index, slice_set, if◌then◌else◌}
 
 -- the widths of loads and stores
 abbrev pub is_width : ℕ → Bool
@@ -19,11 +19,15 @@ written bytes at width value =
     else if width == 2 then slice_set (slice_set bytes at (value % 256)) (at + 1) (value / 256 % 256)
     else slice_set (slice_set (slice_set (slice_set bytes at (value % 256)) (at + 1) (value / 256 % 256)) (at + 2) (value / 65536 % 256)) (at + 3) (value / 16777216)
 
+-- the value below `size` as a word whose sign fills the bits above
+abbrev pub sign_filled : ℕ → ℕ → ℕ
+sign_filled size value = if nat_lt (value % size) (size / 2) then value % size else value % size + (4294967296 - size)
+
 -- a value of `width` bytes as a word: its sign fills the higher bytes where it is signed, zeros do else
 abbrev pub extended : ℕ → Bool → ℕ → ℕ
 extended width signed value =
-    if signed && width == 1 && nat_le 128 value then value + 4294967040
-    else if signed && width == 2 && nat_le 32768 value then value + 4294901760
+    if signed && width == 1 then sign_filled 256 value
+    else if signed && width == 2 then sign_filled 65536 value
     else value
 
 -- a send slot: its bytes, and the number of flits of a message less one

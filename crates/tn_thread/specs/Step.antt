@@ -21,7 +21,7 @@ use Rattle.tn_thread.specs.declared.state.ThreadState.{ThreadState}
 use Rattle.tn_thread.specs.declared.state.ThreadState.TheVariants as state
 use Rattle.tn_thread.specs.declared.thread.Thread.{Thread}
 use Rattle.tn_thread.specs.Memory.{is_width, value_at, written, extended}
-use Rattle.tn_thread.specs.Registers.{register_of}
+use Rattle.tn_thread.specs.Registers.{is_open, may_write, register_of}
 use Rattle.tn_thread.specs.Sight.{Sight}
 
 -- a thread after a step, and what the step asks of the tile
@@ -118,23 +118,6 @@ abbrev pub received : Option ℕ → ℕ → Thread → Stepped
 received None rd t = trapped trap.RecvEmpty t
 received (Some slot) rd t = got rd (slot_address t slot) op.Hand t
 
--- what code outside the firmware of a graph job may use
-abbrev pub is_open : Register → Bool
-is_open register.HartId = true
-is_open register.CanSend = false
-is_open register.CanRecv = false
-is_open register.SendLen = false
-is_open register.SendDest = false
-is_open register.MaskLow = false
-is_open register.MaskHigh = false
-is_open register.Send = false
-is_open register.Recv = false
-is_open register.Free = false
-is_open register.WaitUntil = false
-is_open register.Idle = false
-is_open register.Kill = false
-is_open register.SendSlot = true
-
 -- a read of each control register
 abbrev pub read_row : Register → ℕ → Sight → Thread → Stepped
 read_row register.HartId rd seen t = got rd t.id.0 op.None t
@@ -198,23 +181,6 @@ write_row register.WaitUntil rd value seen t = went (record t { state = state.Wa
 write_row register.Idle rd value seen t = went (record t { state = state.Idle (not (value == 0)); answer_to = rd }) (op.Idle (not (value == 0)))
 write_row register.Kill rd value seen t = went (record t { state = state.Dead value }) (op.Kill value)
 write_row register.SendSlot rd value seen t = trapped trap.BadCsr t
-
--- a write may read the register too where it is Idle
-abbrev pub may_write : Register → ℕ → Bool
-may_write register.Idle rd = true
-may_write register.HartId rd = rd == 0
-may_write register.CanSend rd = rd == 0
-may_write register.CanRecv rd = rd == 0
-may_write register.SendLen rd = rd == 0
-may_write register.SendDest rd = rd == 0
-may_write register.MaskLow rd = rd == 0
-may_write register.MaskHigh rd = rd == 0
-may_write register.Send rd = rd == 0
-may_write register.Recv rd = rd == 0
-may_write register.Free rd = rd == 0
-may_write register.WaitUntil rd = rd == 0
-may_write register.Kill rd = rd == 0
-may_write register.SendSlot rd = rd == 0
 
 abbrev pub write_by : Option Register → ℕ → ℕ → Sight → Thread → Stepped
 write_by None rd value seen t = trapped trap.BadCsr t

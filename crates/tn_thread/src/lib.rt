@@ -8,5 +8,6 @@ pub mod memory;
 pub mod place;
 pub mod register;
 pub mod state;
+pub mod step;
 pub mod thread;
 pub mod view;

@@ -1,7 +1,7 @@
 //! The control registers.
 
 ghost use Rattle.std.specs.Prelude.{◌≡◌};
-ghost use Rattle.tn_thread.specs.Registers.{register_of};
+ghost use Rattle.tn_thread.specs.Registers.{is_open, may_write, register_of};
 
 /// A control register.
 #[derive(Clone, Copy, PartialEq, Eq, Debug)]
@@ -58,6 +58,23 @@ impl Register {
             0x80B => Some(Register::Kill),
             0x80C => Some(Register::SendSlot),
             _ => None,
+        }
+    }
+
+    /// Whether code outside the firmware of a graph job may read the register.
+    pub fn is_open(self) -> bool
+        ensures { result ≡ is_open self }
+    {
+        matches!(self, Register::HartId | Register::SendSlot)
+    }
+
+    /// Whether a write may have `rd` as the register that it reads into: x0, or any where the register is Idle.
+    pub fn may_write(self, rd: u8) -> bool
+        ensures { result ≡ may_write self rd }
+    {
+        match self {
+            Register::Idle => true,
+            _ => rd == 0,
         }
     }
 }
