@@ -1,3 +1,4 @@
+pub mod Fits
 pub mod Memory
 pub mod Registers
 pub mod SendSlot

@@ -71,10 +71,11 @@ slot_at addr t = (addr - 0x40000000) / slot_size t
 abbrev pub is_received : ℕ → Thread → Bool
 is_received addr t = nat_le 0x40000000 addr && nat_lt (slot_at addr t) 65536
 
--- what `width` bytes from an address on are: private memory, the send slot, a received message, or nothing
+-- what `width` bytes from an address on are: misaligned, private memory, the send slot, a received message, or nothing
 abbrev pub place_of : ℕ → ℕ → Thread → Place
 place_of addr width t =
-    if nat_le (addr + width) (length t.mem) then place.Private addr
+    if not (addr % width == 0) then place.Misaligned
+    else if nat_le (addr + width) (length t.mem) then place.Private addr
     else if nat_le 0x50000000 addr && nat_le (addr - 0x50000000 + width) (slot_size t) then place.SendSlot (addr - 0x50000000)
     else if is_received addr t then place.Received (slot_at addr t) ((addr - 0x40000000) % slot_size t)
     else place.Nowhere
@@ -84,6 +85,7 @@ abbrev pub IsWithin : ℕ → Thread → Place → Type 0
 IsWithin width t (place.Private at) = at + width ≤ length t.mem
 IsWithin width t (place.SendSlot at) = at + width ≤ slot_size t
 IsWithin width t (place.Received slot at) = (slot < 65536) × (at < slot_size t)
+IsWithin width t place.Misaligned = Unit {0}
 IsWithin width t place.Nowhere = Unit {0}
 
 -- a load from a slot, whose message the thread has if it holds the slot
@@ -95,23 +97,23 @@ abbrev pub loaded_from : Place → ℕ → ℕ → Bool → Sight → Thread →
 loaded_from (place.Private at) rd width signed seen t = got rd (extended width signed (value_at t.mem at width)) op.None t
 loaded_from (place.SendSlot at) rd width signed seen t = got rd (extended width signed (value_at t.out.bytes at width)) op.None t
 loaded_from (place.Received slot at) rd width signed seen t = loaded_message (seen.held slot) rd width signed at t
+loaded_from place.Misaligned rd width signed seen t = trapped trap.Misaligned t
 loaded_from place.Nowhere rd width signed seen t = trapped trap.BadAddress t
 
 -- a load of a byte, a halfword or a word
 abbrev pub loaded : ℕ → ℕ → ℕ → Bool → Sight → Thread → Stepped
-loaded rd addr width signed seen t =
-    if addr % width == 0 then loaded_from (place_of addr width t) rd width signed seen t else trapped trap.Misaligned t
+loaded rd addr width signed seen t = loaded_from (place_of addr width t) rd width signed seen t
 
 abbrev pub stored_to : Place → ℕ → ℕ → Thread → Stepped
 stored_to (place.Private at) width value t = went (record t { mem = written t.mem at width value }) op.None
 stored_to (place.SendSlot at) width value t = went (record t { out = record t.out { bytes = written t.out.bytes at width value } }) op.None
 stored_to (place.Received slot at) width value t = trapped trap.BadAddress t
+stored_to place.Misaligned width value t = trapped trap.Misaligned t
 stored_to place.Nowhere width value t = trapped trap.BadAddress t
 
 -- a store of a byte, a halfword or a word; received messages are read only
 abbrev pub stored : ℕ → ℕ → ℕ → Thread → Stepped
-stored addr width value t =
-    if addr % width == 0 then stored_to (place_of addr width t) width value t else trapped trap.Misaligned t
+stored addr width value t = stored_to (place_of addr width t) width value t
 
 -- the first letter of the queue is taken, and the address of its slot read
 abbrev pub received : Option ℕ → ℕ → Thread → Stepped
@@ -236,14 +238,23 @@ resumed t = resumed_by t.state t
 -- the next step of a thread that can make one, where its next instruction has this effect
 abbrev pub turned_by : ThreadState → Effect → Sight → Thread → Stepped
 turned_by state.Run e seen t = stepped e seen t
-turned_by (state.Wait waits) e seen t = resumed t
-turned_by (state.Idle vote) e seen t = resumed t
-turned_by (state.Answered value) e seen t = resumed t
-turned_by (state.Dead value) e seen t = resumed t
-turned_by (state.Trapped why) e seen t = resumed t
+turned_by (state.Wait waits) e seen t = resumed_by (state.Wait waits) t
+turned_by (state.Idle vote) e seen t = resumed_by (state.Idle vote) t
+turned_by (state.Answered value) e seen t = resumed_by (state.Answered value) t
+turned_by (state.Dead value) e seen t = resumed_by (state.Dead value) t
+turned_by (state.Trapped why) e seen t = resumed_by (state.Trapped why) t
 
 abbrev pub turned : Effect → Sight → Thread → Stepped
 turned e seen t = turned_by t.state e seen t
+
+-- the thread is idle
+abbrev pub is_idle : ThreadState → Bool
+is_idle state.Run = false
+is_idle (state.Wait waits) = false
+is_idle (state.Idle vote) = true
+is_idle (state.Answered value) = false
+is_idle (state.Dead value) = false
+is_idle (state.Trapped why) = false
 
 -- a thread that was idle has its answer
 abbrev pub answered : ℕ → Thread → Thread

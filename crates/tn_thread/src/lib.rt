@@ -9,5 +9,7 @@ pub mod place;
 pub mod register;
 pub mod state;
 pub mod step;
+#[cfg(test)]
+mod tests;
 pub mod thread;
 pub mod view;

@@ -9,6 +9,8 @@ pub enum Place {
     SendSlot(u32),
     /// The message in this slot, from this byte on.
     Received(u16, u32),
+    /// Nothing, since the width does not divide the address.
+    Misaligned,
     /// Nothing.
     Nowhere,
 }

@@ -1,8 +1,9 @@
 //! What a thread is doing.
 
-ghost use Rattle.std.specs.Prelude.{⊤, ◌≡◌, ◌%◌, ◌==◌, ◌&&◌, ◌||◌, [], ◌∷◌, bit_and, codes};
+ghost use Rattle.std.specs.Prelude.{⊤, ◌≡◌, ◌<◌, ◌%◌, ◌==◌, ◌&&◌, ◌||◌, [], ◌∷◌, bit_and, codes};
 
 use bitflags::{Flag, Flags, bitflag_items};
+use std::marker::Model;
 use tn_base::event::Trap;
 
 /// What a thread waits for: any of these, or nothing, where the wait is over at once.
@@ -73,4 +74,40 @@ pub enum ThreadState {
     Dead(u32),
     /// It trapped.
     Trapped(Trap),
+}
+
+/// The register, x0 to x31, that the answer of an idle goes to. A contract sees its number.
+#[derive(Clone, Copy, PartialEq, Eq, Debug)]
+pub struct Target {
+    register: u8,
+}
+
+impl Model for Target {
+    ghost use Rattle.std.specs.Prelude.{ℕ, ◌<◌};
+
+    ghost Value = { ℕ };
+
+    ghost view = { λ t. t.register };
+
+    ghost invariant = { λ t. t.register < 32 };
+
+    ghost inverse = { λ n. record { register = n } };
+}
+
+impl Target {
+    /// The register of this number.
+    pub fn of(register: u8) -> Target
+        requires { register < 32 }
+        ensures { result ≡ register }
+    {
+        Target { register }
+    }
+
+    /// The number of the register.
+    pub fn register(self) -> u8
+        ensures number { result ≡ self }
+        ensures small { result < 32 }
+    {
+        self.register
+    }
 }

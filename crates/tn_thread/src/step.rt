@@ -1,13 +1,14 @@
 //! One step of a thread.
 
-ghost use Rattle.std.specs.Prelude.{◌≡◌, ◌≤◌, ◌<◌, ◌+◌, ◌*◌, ◌^◌, ◌⊎◌, ◌≢◌, true, false, IsTrue};
+ghost use Rattle.std.specs.Prelude.{◌≡◌, ◌≤◌, ◌<◌, ◌+◌, ◌*◌, ◌^◌, ◌≢◌, IsTrue};
+ghost use Rattle.tn_thread.specs.Fits.{StepFits};
 ghost use Rattle.tn_thread.specs.Memory.{extended, is_width, sign_filled, value_at};
 ghost use Rattle.tn_thread.specs.Registers.{register_of};
-ghost use Rattle.tn_thread.specs.Step.{FitsStep, IsWithin, Stepped, answered, completed, dest_of, freed, got, loaded, place_of, read_by, resumed, runnable, sent, stepped, stored, trapped, went, went_to, write_by};
+ghost use Rattle.tn_thread.specs.Step.{FitsStep, IsWithin, Stepped, answered, completed, dest_of, freed, got, is_idle, loaded, place_of, read_by, resumed, runnable, sent, stepped, stored, trapped, went, went_to, write_by};
 
 use crate::place::Place;
 use crate::register::Register;
-use crate::state::{ThreadState, WaitSet};
+use crate::state::{Target, ThreadState, WaitSet};
 use crate::thread::Thread;
 use crate::view::View;
 use tn_base::bytes::Bytes;
@@ -38,10 +39,41 @@ impl Thread {
         }
     }
 
-    /// One step of a thread that runs, whose instruction has this effect.
+    /// One step of a thread that runs, whose instruction has this effect. It traps where the address, the
+    /// control register or the destination that it names is not there, and counts all the same.
     #[inline(always)]
     pub fn apply<V: View>(&mut self, effect: Effect, view: &V) -> Op
         requires running { self.old.state ≡ ThreadState.Run }
+        requires fuel { self.old.steps < self.old.shape.fuel }
+        requires fits { FitsStep effect }
+        ensures step { record { thread = self.new; op = result } ≡ stepped effect (V.sight view.now) self.old }
+        ensures fits { StepFits (V.sight view.now) self.old (record { thread = self.new; op = result }) }
+    {
+        self.act(effect, view)
+    }
+
+    /// The completion of a wait or an idle: an idle reads its answer into its register.
+    pub fn resume<V: View>(&mut self, view: &V) -> Op
+        requires runnable { IsTrue (runnable (V.sight view.now) self.old.state) }
+        requires suspended { self.old.state ≢ ThreadState.Run }
+        requires fuel { self.old.steps < self.old.shape.fuel }
+        ensures step { record { thread = self.new; op = result } ≡ resumed self.old }
+        ensures fits { StepFits (V.sight view.now) self.old (record { thread = self.new; op = result }) }
+    {
+        self.wake()
+    }
+
+    /// Tells a thread that is idle that the machine is at rest.
+    pub fn answer(&mut self, value: u32)
+        requires { IsTrue (is_idle self.old.state) }
+        ensures { self.new ≡ answered value self.old }
+    {
+        self.state = ThreadState::Answered(value);
+    }
+
+    /// The effect of an instruction.
+    #[inline(always)]
+    fn act<V: View>(&mut self, effect: Effect, view: &V) -> Op
         requires fuel { self.old.steps < self.old.shape.fuel }
         requires fits { FitsStep effect }
         ensures { record { thread = self.new; op = result } ≡ stepped effect (V.sight view.now) self.old }
@@ -63,12 +95,9 @@ impl Thread {
         }
     }
 
-    /// The completion of a wait or an idle.
-    pub fn resume<V: View>(&mut self, view: &V) -> Op
-        requires runnable { IsTrue (runnable (V.sight view.now) self.old.state) }
-        requires suspended { self.old.state ≢ ThreadState.Run }
-        requires fuel { self.old.steps < self.old.shape.fuel }
-        requires register { self.old.answer_to < 32 }
+    /// The completion of a wait or an idle; a thread in another state stays.
+    fn wake(&mut self) -> Op
+        requires { self.old.steps < self.old.shape.fuel }
         ensures { record { thread = self.new; op = result } ≡ resumed self.old }
     {
         let _limits = self.shape.numbers();
@@ -85,21 +114,12 @@ impl Thread {
         }
     }
 
-    /// Tells a thread that is idle that the machine is at rest.
-    pub fn answer(&mut self, value: u32)
-        requires { self.old.state ≡ ThreadState.Idle true ⊎ self.old.state ≡ ThreadState.Idle false }
-        ensures { self.new ≡ answered value self.old }
-    {
-        self.state = ThreadState::Answered(value);
-    }
-
     /// Reads the answer of an idle, and runs on.
     fn complete(&mut self, value: u32) -> Op
-        requires room { self.old.steps + 1 < 2 ^ 32 }
-        requires register { self.old.answer_to < 32 }
+        requires { self.old.steps + 1 < 2 ^ 32 }
         ensures { record { thread = self.new; op = result } ≡ completed value self.old }
     {
-        self.regs.set(self.answer_to, value);
+        self.regs.set(self.answer_to.register(), value);
         self.state = ThreadState::Run;
         self.steps += 1;
         self.given = if value == 1 || value == 2 { value } else { 0 };
@@ -156,6 +176,9 @@ impl Thread {
         ensures within { IsWithin width self.now result }
     {
         let end = addr as usize + width as usize;
+        if addr % u32::from(width) != 0 {
+            return Place::Misaligned;
+        }
         if end <= self.mem.len() {
             return Place::Private(addr);
         }
@@ -178,9 +201,6 @@ impl Thread {
         requires width { IsTrue (is_width width) }
         ensures { record { thread = self.new; op = result } ≡ loaded rd addr width signed (V.sight view.now) self.old }
     {
-        if addr % u32::from(width) != 0 {
-            return self.trap(Trap::Misaligned);
-        }
         match self.place(addr, width) {
             Place::Private(at) => {
                 let value = self.mem.value_at(at as usize, width);
@@ -197,6 +217,7 @@ impl Thread {
                 }
                 None => self.trap(Trap::BadAddress),
             },
+            Place::Misaligned => self.trap(Trap::Misaligned),
             Place::Nowhere => self.trap(Trap::BadAddress),
         }
     }
@@ -208,9 +229,6 @@ impl Thread {
         requires width { IsTrue (is_width width) }
         ensures { record { thread = self.new; op = result } ≡ stored addr width value self.old }
     {
-        if addr % u32::from(width) != 0 {
-            return self.trap(Trap::Misaligned);
-        }
         match self.place(addr, width) {
             Place::Private(at) => {
                 self.mem.write(at as usize, width, value);
@@ -220,6 +238,7 @@ impl Thread {
                 self.out.write(at as usize, width, value);
                 self.go_on(Op::None)
             }
+            Place::Misaligned => self.trap(Trap::Misaligned),
             Place::Received(_, _) | Place::Nowhere => self.trap(Trap::BadAddress),
         }
     }
@@ -255,6 +274,7 @@ impl Thread {
     /// A write of a control register.
     fn write<V: View>(&mut self, rd: u8, csr: u16, value: u32, view: &V) -> Op
         requires room { self.old.steps + 1 < 2 ^ 32 }
+        requires rd { rd < 32 }
         ensures { record { thread = self.new; op = result } ≡ write_by (register_of csr) rd value (V.sight view.now) self.old }
     {
         let Some(register) = Register::of(csr) else {
@@ -289,7 +309,7 @@ impl Thread {
             Register::Idle => {
                 let vote = value != 0;
                 self.state = ThreadState::Idle(vote);
-                self.answer_to = rd;
+                self.answer_to = Target::of(rd);
                 self.go_on(Op::Idle(vote))
             }
             Register::Kill => {

@@ -5,7 +5,7 @@ ghost use Rattle.tn_base.specs.Message.{flits};
 ghost use Rattle.tn_thread.specs.Step.{given_by, started};
 
 use crate::memory::{Memory, SendSlot};
-use crate::state::ThreadState;
+use crate::state::{Target, ThreadState};
 use std::alloc::{AllocError, Global};
 use tn_base::ids::ThreadId;
 use tn_base::regs::Regs;
@@ -26,7 +26,7 @@ pub struct Thread {
     pub(crate) steps: u32,
     pub(crate) sends: u32,
     pub(crate) given: u32,
-    pub(crate) answer_to: u8,
+    pub(crate) answer_to: Target,
     pub(crate) dest: u32,
     pub(crate) mask_low: u32,
     pub(crate) mask_high: u32,
@@ -63,7 +63,7 @@ impl Thread {
             steps: 0,
             sends: 0,
             given: 0,
-            answer_to: 0,
+            answer_to: Target::of(0),
             dest: 0,
             mask_low: 0,
             mask_high: 0,

@@ -1,0 +1,8 @@
+use Rattle.std.proofs.Common.{sym, subst}
+use Rattle.tn_thread.specs.Fits.{StepFits}
+use Rattle.tn_thread.specs.Step.{Stepped}
+use Rattle.tn_thread.proofs.Fits.{stepped_fits}
+use Rattle.tn_thread.proofs.thread.Thread.apply.Goals as goal
+
+pub returns-clause-fits : goal.returns-clause-fits
+returns-clause-fits g c = rw c.act.ensures (stepped_fits c.args.effect _ c.args.self.now)
