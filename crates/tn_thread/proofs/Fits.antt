@@ -47,9 +47,15 @@ from_fits place.Nowhere rd width signed seen t = trapped_fits seen t trap.BadAdd
 
 to_fits : (to : Place) (width value : ℕ) (seen : Sight) (t : Thread) → StepFits seen t (stored_to to width value t)
 to_fits (place.Private at) width value seen t = record {
-  keeps = record { id = refl; shape = refl; firmware = refl; mem = written_long t.mem at width value; out = refl }; steps = refl; op = tt }
+  keeps = record { id = refl; shape = refl; firmware = refl; mem = written_long t.mem at width value; out = refl };
+  steps = refl;
+  op = tt;
+}
 to_fits (place.SendSlot at) width value seen t = record {
-  keeps = record { id = refl; shape = refl; firmware = refl; mem = refl; out = written_long t.out.bytes at width value }; steps = refl; op = tt }
+  keeps = record { id = refl; shape = refl; firmware = refl; mem = refl; out = written_long t.out.bytes at width value };
+  steps = refl;
+  op = tt;
+}
 to_fits (place.Received slot at) width value seen t = trapped_fits seen t trap.BadAddress
 to_fits place.Misaligned width value seen t = trapped_fits seen t trap.Misaligned
 to_fits place.Nowhere width value seen t = trapped_fits seen t trap.BadAddress
@@ -86,7 +92,8 @@ sent_to_fits (Some to) seen t can =
     (λ e. record {
       keeps = record { id = refl; shape = refl; firmware = refl; mem = refl; out = refl };
       steps = refl;
-      op = (can, e, omega (arith, length-take (16 * (t.out.last + 1)) t.out.bytes)) })
+      op = (can, e, omega (arith, length-take (16 * (t.out.last + 1)) t.out.bytes));
+    })
     (λ e. trapped_fits seen t trap.BadDest)
 
 sent_fits : (kind : ℕ) (seen : Sight) (t : Thread) → StepFits seen t (sent kind seen t)
@@ -99,7 +106,8 @@ freed_fits addr seen t =
     (λ e. record {
       keeps = record { id = refl; shape = refl; firmware = refl; mem = refl; out = refl };
       steps = refl;
-      op = (and_parts (is_received addr t && nat_eq ((addr - 0x40000000) % slot_size t) 0) (is_some (seen.held (slot_at addr t))) e).1 })
+      op = (and_parts (is_received addr t && nat_eq ((addr - 0x40000000) % slot_size t) 0) (is_some (seen.held (slot_at addr t))) e).1;
+    })
     (λ e. trapped_fits seen t trap.BadFree)
 
 write_fits : (r : Register) (rd value : ℕ) (seen : Sight) (t : Thread) → StepFits seen t (write_row r rd value seen t)

@@ -19,6 +19,7 @@ use tn_base::op::Op;
 use tn_base::shape::{Shape, ShapeNumbers};
 
 /// A tile on which the thread holds one slot.
+#[derive(Drop)]
 struct Seen {
     can_send: bool,
     first: Option<u16>,
@@ -69,7 +70,12 @@ fn machine(version: u32) -> ShapeNumbers {
 }
 
 /// Thread 1 of the machine, with an image that fits it.
-fn start(alloc: Global, shape: &Shape, image: &[u8], firmware: bool) -> Result<Option<Thread>, AllocError> {
+fn start(
+    alloc: Global,
+    shape: &Shape,
+    image: &[u8],
+    firmware: bool,
+) -> Result<Option<Thread>, AllocError> {
     if image.len() > shape.numbers().mem as usize {
         return Ok(None);
     }
@@ -92,7 +98,13 @@ fn step(thread: &mut Thread, effect: Effect, view: &Seen) -> Option<Op>
 }
 
 /// What a load reads into x5, or why it traps.
-fn load(thread: &mut Thread, addr: u32, width: u8, signed: bool, view: &Seen) -> Result<u32, Option<Op>>
+fn load(
+    thread: &mut Thread,
+    addr: u32,
+    width: u8,
+    signed: bool,
+    view: &Seen,
+) -> Result<u32, Option<Op>>
     requires { IsTrue (is_width width) }
 {
     let effect = Effect::Load {
@@ -151,7 +163,15 @@ fn loads_and_stores(rt: HostRuntime) -> Result<(), Fail> {
     assert_eq!(rt; load(&mut t, 3, 1, true, &view), Ok(0xFFFF_FF84));
     assert_eq!(rt; load(&mut t, 0x4000_00CC, 4, false, &view), Ok(0x0101_0101));
     assert_eq!(rt; load(&mut t, 0x4000_00D0, 4, false, &view), Ok(0));
-    let stored = step(&mut t, Effect::Store { addr: 0x5000_003C, width: 4, value: 0x0A0B_0C0D }, &view);
+    let stored = step(
+        &mut t,
+        Effect::Store {
+            addr: 0x5000_003C,
+            width: 4,
+            value: 0x0A0B_0C0D,
+        },
+        &view,
+    );
     assert_eq!(rt; stored, Some(Op::None));
     assert_eq!(rt; load(&mut t, 0x5000_003D, 1, false, &view), Ok(0x0C));
     assert_eq!(rt; t.steps(), 8);
@@ -178,7 +198,10 @@ fn sends_and_receives(rt: HostRuntime) -> Result<(), Fail> {
     assert_eq!(rt; write(&mut t, 0x802, 9, &view), Some(Op::None));
     assert_eq!(rt; write(&mut t, 0x803, HOST, &view), Some(Op::None));
     let zeros = Bytes::of(&[0; 32]).ok().ok_or("two flits")?;
-    assert_eq!(rt; write(&mut t, 0x806, 0, &view), Some(Op::Send(Dest::Host, zeros)));
+    assert_eq!(rt;
+        write(&mut t, 0x806, 0, &view),
+        Some(Op::Send(Dest::Host, zeros))
+    );
     assert_eq!(rt; t.sends(), 1);
     view.first = Some(2);
     assert_eq!(rt; read(&mut t, 0x807, &view), (Some(Op::Hand), 0x4000_0100));
@@ -191,9 +214,15 @@ fn sends_and_receives(rt: HostRuntime) -> Result<(), Fail> {
     assert_eq!(rt; resume(&mut t, &view), Some(Op::None));
     view.can_send = false;
     let mut busy = t.copy()?;
-    assert_eq!(rt; write(&mut busy, 0x806, 7, &view), Some(Op::Trap(Trap::SendBusy)));
+    assert_eq!(rt;
+        write(&mut busy, 0x806, 7, &view),
+        Some(Op::Trap(Trap::SendBusy))
+    );
     view.can_send = true;
-    assert_eq!(rt; write(&mut t, 0x806, 7, &view), Some(Op::Trap(Trap::BadDest)));
+    assert_eq!(rt;
+        write(&mut t, 0x806, 7, &view),
+        Some(Op::Trap(Trap::BadDest))
+    );
     Ok(())
 }
 
@@ -202,7 +231,15 @@ fn idles_and_ends(rt: HostRuntime) -> Result<(), Fail> {
     let shape = Shape::of(machine(1))?;
     let view = quiet()?;
     let mut t = start(rt.alloc(), &shape, &[], false)?.ok_or("an empty image")?;
-    let idle = step(&mut t, Effect::CsrWrite { rd: 7, csr: 0x80A, value: 5 }, &view);
+    let idle = step(
+        &mut t,
+        Effect::CsrWrite {
+            rd: 7,
+            csr: 0x80A,
+            value: 5,
+        },
+        &view,
+    );
     assert_eq!(rt; idle, Some(Op::Idle(true)));
     assert!(rt; !t.runnable(&view));
     if let ThreadState::Idle(_) = t.state {

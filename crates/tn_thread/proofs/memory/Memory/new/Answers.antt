@@ -12,8 +12,8 @@ returns c =
     let made : c.in_ok-bytes.bytes.items ≡ replicate c.args.size 0 = c.in_ok-bytes.ensures.items_if_clones_equal (λ y e. e) in
     let long : c.in_ok-bytes.bytes.len ≡ c.args.size = c.in_ok-bytes.ensures.len in
     let put : c.put_front.new.bytes ≡ image ++ replicate (c.args.size - length image) 0
-        = c.put_front.ensures ∙ ap (λ xs. image ++ drop (length image) xs) (c.as_mut_slice.ensures.value ∙ made) ∙ ap (λ xs. image ++ xs) (drop-replicate (length image) c.args.size 0) in
+    = c.put_front.ensures ∙ ap (λ xs. image ++ drop (length image) xs) (c.as_mut_slice.ensures.value ∙ made) ∙ ap (λ xs. image ++ xs) (drop-replicate (length image) c.args.size 0) in
     let fits : length image ≤ c.args.size = c.requires in
     let all : length c.put_front.new.bytes ≡ c.in_ok-bytes.bytes.len
-        = omega (arith, ap length put, length-append image (replicate (c.args.size - length image) 0), length-replicate {A = ℕ} (c.args.size - length image) 0) in
+    = omega (arith, ap length put, length-append image (replicate (c.args.size - length image) 0), length-replicate {A = ℕ} (c.args.size - length image) 0) in
     whole c.in_ok-bytes.bytes.len c.put_front.new.bytes _ all ∙ put
