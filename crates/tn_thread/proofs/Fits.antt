@@ -1,5 +1,5 @@
 -- Each step keeps what it must, and asks only for what it may.
-use Rattle.std.proofs.Common.{ℕ, ◌≡◌, ◌≤◌, ◌+◌, ◌-◌, ◌*◌, ◌/◌, ◌%◌, ◌^◌, ◌∙◌, ◌&&◌, Bool, true, false, not, List, length, take, set, refl, arith, nat_eq, Option, Some, None, is_some}
+use Rattle.std.proofs.Common.{ℕ, ◌≡◌, ◌+◌, ◌-◌, ◌*◌, ◌%◌, ◌&&◌, Bool, true, not, List, length, refl, arith, nat_eq, Option, Some, None, is_some}
 use Rattle.std.proofs.Math.ListN.{length-set}
 use Rattle.std.proofs.lemmas.List.{length-take}
 use Rattle.std.proofs.lemmas.Bool.{cond_both, and_parts}
@@ -20,8 +20,8 @@ use Rattle.tn_thread.specs.declared.thread.Thread.{Thread}
 use Rattle.tn_thread.specs.Memory.{written, value_at, extended}
 use Rattle.tn_thread.specs.Registers.{is_open, may_write, register_of}
 use Rattle.tn_thread.specs.Sight.{Sight}
-use Rattle.tn_thread.specs.Step.{Stepped, completed, dest_of, freed, got, is_received, loaded, loaded_from, loaded_message, place_of, read_by, read_row, received, resumed, resumed_by, runnable, sent, sent_to, slot_at, slot_size, stepped, stored, stored_to, trapped, turned, turned_by, went, went_to, write_by, write_row}
-use Rattle.tn_thread.specs.Fits.{Keeps, OpFits, StepFits}
+use Rattle.tn_thread.specs.Step.{completed, dest_of, freed, got, is_received, loaded_from, loaded_message, place_of, read_by, read_row, received, resumed, resumed_by, runnable, sent, sent_to, slot_at, slot_size, stepped, stored_to, trapped, turned_by, write_by, write_row}
+use Rattle.tn_thread.specs.Fits.{StepFits}
 
 written_long : (bytes : List ℕ) (at width value : ℕ) → length (written bytes at width value) ≡ length bytes
 written_long bytes at width value =

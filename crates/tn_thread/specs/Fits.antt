@@ -1,5 +1,5 @@
 -- What each step keeps of its thread, and when it asks for what.
-use Rattle.std.specs.Prelude.{ℕ, ◌≡◌, ◌≤◌, ◌+◌, IsTrue, length, is_some, true}
+use Rattle.std.specs.Prelude.{◌≡◌, ◌≤◌, ◌+◌, IsTrue, length, is_some}
 use Rattle.tn_base.specs.Message.{has_dest}
 use Rattle.tn_base.specs.declared.op.Op.{Op}
 use Rattle.tn_base.specs.declared.op.Op.TheVariants as op

@@ -1,5 +1,5 @@
 -- The send slot as the code keeps it.
-use Rattle.std.specs.Prelude.{ℕ, ◌≡◌, ◌≤◌, ◌+◌, ◌*◌, ◌==◌, ◌||◌, IsTrue, length}
+use Rattle.std.specs.Prelude.{◌≡◌, ◌≤◌, ◌+◌, ◌*◌, ◌==◌, ◌||◌, IsTrue, length}
 use Rattle.tn_thread.specs.declared.memory.SendSlot.TheInside.{Inside}
 
 -- its size is that of a message slot of version 1 or 2, and its message lies within it

@@ -16,7 +16,6 @@ use Rattle.tn_thread.specs.declared.place.Place.{Place}
 use Rattle.tn_thread.specs.declared.place.Place.TheVariants as place
 use Rattle.tn_thread.specs.declared.register.Register.{Register}
 use Rattle.tn_thread.specs.declared.register.Register.TheVariants as register
-use Rattle.tn_thread.specs.declared.state.WaitSet.{WaitSet}
 use Rattle.tn_thread.specs.declared.state.ThreadState.{ThreadState}
 use Rattle.tn_thread.specs.declared.state.ThreadState.TheVariants as state
 use Rattle.tn_thread.specs.declared.thread.Thread.{Thread}

@@ -1,6 +1,6 @@
 //! The bytes that a thread has of its own: private memory and the send slot.
 
-ghost use Rattle.std.specs.Prelude.{◌≡◌, ◌≤◌, ◌<◌, ◌+◌, ◌-◌, ◌*◌, ◌/◌, ◌%◌, ◌++◌, ◌==◌, ◌||◌, IfOk, IsTrue, length, replicate, slice_index, take, drop};
+ghost use Rattle.std.specs.Prelude.{◌≡◌, ◌≤◌, ◌<◌, ◌↔◌, ◌+◌, ◌-◌, ◌*◌, ◌/◌, ◌%◌, ◌++◌, ◌==◌, ◌||◌, IfOk, IsTrue, length, replicate, slice_index, take, drop};
 ghost use Rattle.tn_thread.specs.Memory.{is_width, value_at, written, Outgoing};
 
 use std::alloc::{AllocError, Global};
@@ -114,6 +114,13 @@ impl Memory {
         write_at(self.bytes.as_mut_slice(), at, width, value);
     }
 
+    /// Whether the bytes are equal.
+    pub fn same(&self, other: &Memory) -> bool
+        ensures { IsTrue result ↔ (self.now ≡ other.now) }
+    {
+        self.bytes.as_slice() == other.bytes.as_slice()
+    }
+
     /// The same bytes.
     pub fn copy(&self) -> Result<Memory, AllocError>
         ensures { IfOk result (λ m. m ≡ self.now) }
@@ -203,6 +210,13 @@ impl SendSlot {
             Ok(message) => message,
             Err(_) => unreachable!(),
         }
+    }
+
+    /// Whether the slots are equal.
+    pub fn same(&self, other: &SendSlot) -> bool
+        ensures { IsTrue result ↔ (self.now ≡ other.now) }
+    {
+        self.last == other.last && self.bytes[..self.size] == other.bytes[..other.size]
     }
 
     /// The same slot.

@@ -177,8 +177,10 @@ fn loads_and_stores(rt: HostRuntime) -> Result<(), Fail> {
     assert_eq!(rt; t.steps(), 8);
     assert_eq!(rt; t.pc(), 32);
     let mut again = t.copy()?;
+    assert!(rt; t.same(&again));
     let past = load(&mut again, 0x5000_0040, 1, false, &view);
     assert_eq!(rt; past, Err(Some(Op::Trap(Trap::BadAddress))));
+    assert!(rt; !t.same(&again));
     assert_eq!(rt; again.pc(), 32);
     assert_eq!(rt; again.steps(), 9);
     let odd = load(&mut t, 0x9000_0001, 2, false, &view);

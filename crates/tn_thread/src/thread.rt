@@ -1,7 +1,8 @@
 //! A thread.
 
-ghost use Rattle.std.specs.Prelude.{◌≡◌, ◌≤◌, ◌<◌, IfOk, IsTrue, MatchOption, ⊤, length, slice_index};
+ghost use Rattle.std.specs.Prelude.{◌≡◌, ◌≤◌, ◌<◌, ◌↔◌, IfOk, IsTrue, MatchOption, ⊤, length, slice_index};
 ghost use Rattle.tn_base.specs.Message.{flits};
+ghost use Rattle.tn_thread.specs.Same.{SameCounts, SameName, SameParts, SameSending};
 ghost use Rattle.tn_thread.specs.Step.{given_by, started};
 
 use crate::memory::{Memory, SendSlot};
@@ -152,4 +153,63 @@ impl Thread {
             out: self.out.copy(),
         })
     }
+
+    /// Whether two threads are equal, but for the spare room of their memory.
+    pub fn same(&self, other: &Thread) -> bool
+        ensures { IsTrue result ↔ (self.now ≡ other.now) }
+    {
+        same_parts(self, other)
+    }
+}
+
+/// Whether two threads are equal in each field.
+fn same_parts(a: &Thread, b: &Thread) -> bool
+    ensures { IsTrue result ↔ SameParts a.now b.now }
+{
+    same_name(a, b)
+        && same_counts(a, b)
+        && same_sending(a, b)
+        && same_state(&a.state, &b.state)
+        && same_regs(&a.regs, &b.regs)
+        && a.mem.same(&b.mem)
+        && a.out.same(&b.out)
+}
+
+/// Whether two threads have one name, and one machine.
+fn same_name(a: &Thread, b: &Thread) -> bool
+    ensures { IsTrue result ↔ SameName a.now b.now }
+{
+    a.id == b.id && a.shape == b.shape && a.firmware == b.firmware
+}
+
+/// Whether two threads stand at one place, and have made as much.
+fn same_counts(a: &Thread, b: &Thread) -> bool
+    ensures { IsTrue result ↔ SameCounts a.now b.now }
+{
+    a.pc == b.pc
+        && a.steps == b.steps
+        && a.sends == b.sends
+        && a.given == b.given
+        && a.answer_to == b.answer_to
+}
+
+/// Whether two threads send to one destination.
+fn same_sending(a: &Thread, b: &Thread) -> bool
+    ensures { IsTrue result ↔ SameSending a.now b.now }
+{
+    a.dest == b.dest && a.mask_low == b.mask_low && a.mask_high == b.mask_high
+}
+
+/// Whether two threads do the same.
+fn same_state(a: &ThreadState, b: &ThreadState) -> bool
+    ensures { IsTrue result ↔ (a.now ≡ b.now) }
+{
+    *a == *b
+}
+
+/// Whether all registers are equal.
+fn same_regs(a: &Regs, b: &Regs) -> bool
+    ensures { IsTrue result ↔ (a.now ≡ b.now) }
+{
+    *a == *b
 }

@@ -1,6 +1,3 @@
-use Rattle.std.proofs.Common.{sym, subst}
-use Rattle.tn_thread.specs.Fits.{StepFits}
-use Rattle.tn_thread.specs.Step.{Stepped}
 use Rattle.tn_thread.proofs.Fits.{stepped_fits}
 use Rattle.tn_thread.proofs.thread.Thread.apply.Goals as goal
 
