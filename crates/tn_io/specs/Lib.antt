@@ -1,0 +1,4 @@
+pub mod Rose
+pub mod Took
+pub mod Whole
+pub mod Wrote
