@@ -4,7 +4,10 @@
 //! faults rose in `specs/Rose.antt`. Read `whole::read_all` and `whole::write_all` first.
 #![tactic(auto)]
 
+pub mod clean;
 pub mod gate;
+pub mod memory;
 pub mod sink;
 pub mod source;
+pub mod standard;
 pub mod whole;
