@@ -1,5 +1,7 @@
 //! A source and a sink over std's readers and writers: the edge to the world outside.
 ghost use Rattle.std.specs.Prelude.{◌≡◌, None};
+ghost use Rattle.tn_io.specs.Wrote.{IsWritten, CountsPut};
+ghost use Rattle.tn_io.specs.Standard.{Sends};
 
 use crate::sink::{Sink, Wrote};
 use crate::source::{Source, Took};
@@ -80,7 +82,11 @@ impl<W: Write> Sink for StdSink<W> {
 
     ghost faults = { λ s. s.faults };
 
-    fn put(&mut self, bytes: &[u8]) -> Wrote {
+    fn put(&mut self, bytes: &[u8]) -> Wrote
+        ensures bytes { IsWritten result None None bytes.now }
+        ensures cause { CountsPut result self.old.faults self.new.faults }
+        ensures sends { Sends result (W.contents self.old.inner) (W.contents self.new.inner) bytes.now }
+    {
         match self.inner.write(bytes) {
             Ok(n) if (n > 0 || bytes.is_empty()) && self.inner.flush().is_ok() => Wrote::Took(n),
             _ => {
