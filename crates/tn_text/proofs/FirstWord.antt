@@ -1,5 +1,5 @@
 -- The words of a line.
-use Rattle.std.proofs.Common.{◌≡◌, ℕ, ◌+◌, ◌-◌, ◌<◌, ◌≤◌, zero, suc, Bool, true, false, List, [], ◌∷◌, length, take, drop, get_or, filter, refl, sym, ap, ◌∙◌, ⊎_elim, one-add, add-one, arith, length-drop, length-take, drop-cons}
+use Rattle.std.proofs.Common.{◌≡◌, ℕ, ◌+◌, ◌-◌, ◌<◌, ◌≤◌, suc, true, false, List, [], ◌∷◌, length, take, drop, get_or, filter, refl, sym, ap, ◌∙◌, ⊎_elim, one-add, add-one, arith, length-drop, length-take, drop-cons}
 use Rattle.std.specs.List.{before_first, after_first, position_or_len, prefix_len, slice_split, onto_first}
 use Rattle.std.proofs.lemmas.Bool.{cases_Bool, cases_lt}
 use Rattle.std.proofs.lemmas.Grind.{common_steps}
@@ -43,11 +43,11 @@ split_whole [] h = refl
 split_whole (x ∷ xs) h =
     ⊎_elim (λ s. let k : length (x ∷ xs) ≤ 0 = rw s at h in absurd (omega (arith, k)))
     (λ s. let k : length (x ∷ xs) ≤ 1 + position_or_len is_space xs = rw s at h in
-        let more = split_whole xs (omega (arith, k)) in slice_split-cons_no is_space x xs s ∙ ap (onto_first x) more) (cases_Bool (is_space x))
+    let more = split_whole xs (omega (arith, k)) in slice_split-cons_no is_space x xs s ∙ ap (onto_first x) more) (cases_Bool (is_space x))
 
 words_whole : (xs : List ℕ) → 0 < length xs → length xs ≤ position_or_len is_space xs
     → words_of xs ≡ before_first is_space xs ∷ words_of (drop (position_or_len is_space xs) xs)
-words_whole xs some h = 
+words_whole xs some h =
     let e : take (position_or_len is_space xs) xs ≡ xs = grind (arith, common_steps) in
     let f : drop (position_or_len is_space xs) xs ≡ [] = grind (arith, common_steps) in
     let g = split_whole xs h in

@@ -5,5 +5,11 @@
 #![tactic(auto)]
 
 pub mod content;
+pub mod hex;
 pub mod lines;
+pub mod names;
+pub mod numbers;
+pub mod print;
+#[cfg(test)]
+mod tests;
 pub mod words;

@@ -21,7 +21,7 @@ pub(crate) fn place_of(bytes: &[u8], byte: u8) -> usize
 pub fn cut(bytes: &[u8], byte: u8) -> Option<(&[u8], &[u8])>
     ensures { MatchOption result (position_or_len (λ b. b == byte) bytes.now ≡ length bytes.now)
         (λ r. (r.0.now ≡ before_first (λ b. b == byte) bytes.now)
-            × (r.1.now ≡ after_first (λ b. b == byte) bytes.now)) }
+        × (r.1.now ≡ after_first (λ b. b == byte) bytes.now)) }
 {
     let place = place_of(bytes, byte);
     if place == bytes.len() {
