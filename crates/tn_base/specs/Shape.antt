@@ -1,5 +1,5 @@
 -- The numbers of a machine, and their limits.
-use Rattle.std.specs.Prelude.{ℕ, ◌*◌, ◌%◌, ◌==◌, ◌&&◌, ◌||◌, Bool, nat_le, if◌then◌else◌, is_none}
+use Rattle.std.specs.Prelude.{◌≡◌, ◌≤◌, ℕ, ◌*◌, ◌%◌, ◌==◌, ◌&&◌, Bool, nat_le, if◌then◌else◌, is_none}
 use Rattle.std.specs.declared.option.Option.{Option}
 use Rattle.std.specs.declared.option.Option.TheVariants.{Some, None}
 use Rattle.std.specs.declared.result.Result.{Result}
@@ -46,3 +46,20 @@ shape_by n (Some fault) = Err fault
 
 abbrev pub shape_of : ShapeNumbers → Result ShapeNumbers ShapeFault
 shape_of n = shape_by n (first_fault n)
+
+-- each number is within its limits
+pub record WithinLimits (n : ShapeNumbers) : Type 0 where
+  pub version : (1 ≤ n.version) × (n.version ≤ 2)
+  pub boards_x : (1 ≤ n.boards_x) × (n.boards_x ≤ 4)
+  pub boards_y : (1 ≤ n.boards_y) × (n.boards_y ≤ 4)
+  pub tiles_x : (1 ≤ n.tiles_x) × (n.tiles_x ≤ 4)
+  pub tiles_y : (1 ≤ n.tiles_y) × (n.tiles_y ≤ 4)
+  pub cores : (1 ≤ n.cores) × (n.cores ≤ 4)
+  pub threads : (1 ≤ n.threads) × (n.threads ≤ 16)
+  pub slots : (4 ≤ n.slots) × (n.slots ≤ 512)
+  pub link : (1 ≤ n.link) × (n.link ≤ 16)
+  pub mem : (64 ≤ n.mem) × (n.mem ≤ 65536)
+  pub whole_lines : n.mem % 64 ≡ 0
+  pub total : thread_count n * n.mem ≤ 268435456
+  pub fuel : (1 ≤ n.fuel) × (n.fuel ≤ 4294967295)
+  pub turn : (1 ≤ n.turn) × (n.turn ≤ 64)

@@ -17,11 +17,22 @@ pub enum Effect {
         signed: bool,
     },
     /// Write the low `width` bytes, 1, 2 or 4, of a value.
-    Store { addr: u32, width: u8, value: u32 },
+    Store {
+        addr: u32,
+        width: u8,
+        value: u32,
+    },
     /// Read a control register.
-    CsrRead { rd: u8, csr: u16 },
+    CsrRead {
+        rd: u8,
+        csr: u16,
+    },
     /// Write a control register, and read it into `rd`.
-    CsrWrite { rd: u8, csr: u16, value: u32 },
+    CsrWrite {
+        rd: u8,
+        csr: u16,
+        value: u32,
+    },
     /// Trap.
     Trap(Trap),
 }

@@ -1,7 +1,7 @@
 //! The machine's names: shapes, threads, tiles and parts, events, traps, registers and effects.
 //!
-//! A `Shape` is the eleven numbers of a machine within their limits. Its definitions, which contracts of
-//! all crates cite, stand in `specs/Shape.antt` and `specs/Address.antt`. Read `Shape::of` first.
+//! A `Shape` is the numbers of a machine, each within its limits; its definitions, which the contracts of all
+//! crates cite, stand in `specs/Shape.antt`. Read `Shape::of` first.
 #![tactic(auto)]
 
 pub mod effect;
@@ -9,3 +9,5 @@ pub mod event;
 pub mod ids;
 pub mod regs;
 pub mod shape;
+#[cfg(test)]
+mod tests;

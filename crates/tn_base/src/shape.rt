@@ -1,7 +1,7 @@
 //! The numbers of a machine.
 
-ghost use Rattle.std.specs.Prelude.{◌≡◌, ◌<◌, ◌↔◌, IsTrue};
-ghost use Rattle.tn_base.specs.Shape.{within as within_of, shape_of, thread_count, is_shape};
+ghost use Rattle.std.specs.Prelude.{◌≡◌, ◌≤◌};
+ghost use Rattle.tn_base.specs.Shape.{within, shape_of, first_fault, thread_count, WithinLimits};
 
 use std::marker::Model;
 
@@ -73,21 +73,93 @@ impl Model for Shape {
 }
 
 /// Whether a number is from the least to the greatest.
-fn within(least: u32, greatest: u32, n: u32) -> bool
-    ensures { result ≡ within_of least greatest n }
+fn is_within(least: u32, greatest: u32, n: u32) -> bool
+    ensures { result ≡ within least greatest n }
 {
     least <= n && n <= greatest
 }
 
 /// How many threads the numbers name.
-fn threads_of(n: &ShapeNumbers) -> u64
-    requires { n.now.boards_x * n.now.boards_y * n.now.tiles_x * n.now.tiles_y * n.now.cores * n.now.threads < 2 ^ 32 }
-    ensures { result ≡ thread_count n.now }
+fn count_threads(n: &ShapeNumbers) -> u32
+    requires boards_x { n.now.boards_x ≤ 4 }
+    requires boards_y { n.now.boards_y ≤ 4 }
+    requires tiles_x { n.now.tiles_x ≤ 4 }
+    requires tiles_y { n.now.tiles_y ≤ 4 }
+    requires cores { n.now.cores ≤ 4 }
+    requires threads { n.now.threads ≤ 16 }
+    ensures value { result ≡ thread_count n.now }
+    ensures small { result ≤ 16384 }
 {
-    u64::from(n.boards_x)
-        * u64::from(n.boards_y)
-        * u64::from(n.tiles_x)
-        * u64::from(n.tiles_y)
-        * u64::from(n.cores)
-        * u64::from(n.threads)
+    n.boards_x * n.boards_y * n.tiles_x * n.tiles_y * n.cores * n.threads
+}
+
+/// The first number that is outside its limits.
+fn find_fault(n: &ShapeNumbers) -> Option<ShapeFault>
+    ensures { result ≡ first_fault n.now }
+{
+    if !is_within(1, 2, n.version) {
+        return Some(ShapeFault::Version);
+    }
+    if !is_within(1, 4, n.boards_x) || !is_within(1, 4, n.boards_y) {
+        return Some(ShapeFault::Boards);
+    }
+    if !is_within(1, 4, n.tiles_x) || !is_within(1, 4, n.tiles_y) {
+        return Some(ShapeFault::Tiles);
+    }
+    if !is_within(1, 4, n.cores) {
+        return Some(ShapeFault::Cores);
+    }
+    if !is_within(1, 16, n.threads) {
+        return Some(ShapeFault::Threads);
+    }
+    if !is_within(4, 512, n.slots) {
+        return Some(ShapeFault::Slots);
+    }
+    if !is_within(1, 16, n.link) {
+        return Some(ShapeFault::Link);
+    }
+    if !is_within(64, 65536, n.mem) || n.mem % 64 != 0 {
+        return Some(ShapeFault::Mem);
+    }
+    if u64::from(count_threads(n)) * u64::from(n.mem) > MOST_PRIVATE_BYTES {
+        return Some(ShapeFault::Total);
+    }
+    if !is_within(1, u32::MAX, n.fuel) {
+        return Some(ShapeFault::Fuel);
+    }
+    if !is_within(1, 64, n.turn) {
+        return Some(ShapeFault::Turn);
+    }
+    None
+}
+
+/// The most private bytes that all threads together may have.
+const MOST_PRIVATE_BYTES: u64 = 268_435_456;
+
+impl Shape {
+    /// The machine of these numbers.
+    pub fn of(n: ShapeNumbers) -> Result<Shape, ShapeFault>
+        ensures { result ≡ shape_of n }
+    {
+        match find_fault(&n) {
+            Some(fault) => Err(fault),
+            None => Ok(Shape { numbers: n }),
+        }
+    }
+
+    /// The numbers that the machine is made of.
+    pub fn numbers(&self) -> ShapeNumbers
+        ensures value { result ≡ self.now }
+        ensures limits { WithinLimits self.now }
+    {
+        self.numbers
+    }
+
+    /// How many threads the machine has, 1 to 16,384.
+    pub fn thread_count(&self) -> u32
+        ensures value { result ≡ thread_count self.now }
+        ensures small { result ≤ 16384 }
+    {
+        count_threads(&self.numbers)
+    }
 }
