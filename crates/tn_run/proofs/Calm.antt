@@ -1,6 +1,5 @@
 -- Runs in which no event is final yet.
-use Rattle.std.proofs.Common.{◌≡◌, ◌≢◌, ℕ, List, [], ◌∷◌, ◌++◌, None, Some, refl, ap, sym, ◌∙◌, subst}
-use Rattle.std.specs.declared.option.Option.{Option}
+use Rattle.std.proofs.Common.{◌≡◌, List, [], ◌∷◌, ◌++◌, None, Some, refl, sym, subst}
 use Rattle.tn_base.specs.declared.event.Event.{Event}
 use Rattle.tn_base.specs.declared.event.Outcome.{Outcome}
 use Rattle.tn_run.specs.Machine.{Machine}

@@ -7,7 +7,7 @@ use Rattle.tn_run.specs.declared.status.Status.{Status}
 use Rattle.tn_run.specs.declared.status.Status.TheVariants.{Done, Usage, Refused, Trapped, BadKey, Spent, Jammed, ReadFault, WriteFault, Memory, TooLong}
 use Rattle.tn_run.specs.Answer.{IsAnswer}
 use Rattle.tn_run.specs.Kept.{KeptView}
-use Rattle.tn_run.specs.Top.{Ports, most_bytes, Answers, Finishes, Completes, IsCalm, IsTooLong, IsWhollyAnswered}
+use Rattle.tn_run.specs.Top.{Ports, most_bytes, Answers, Finishes, Completes, IsCalm}
 
 -- all that was left is all that is told
 whole_is : (input bytes : List ℕ) (new : Option (List ℕ)) → IsWhole bytes most_bytes (Some input) new → bytes ≡ input

@@ -1,12 +1,11 @@
 -- Each turn uses fuel.
-use Rattle.std.proofs.Common.{◌≡◌, ℕ, zero, suc, ◌+◌, ◌-◌, ◌<◌, ◌≤◌, ◌==◌, ◌&&◌, ◌/◌, ◌%◌, ◌^◌, Bool, true, false, cond, List, None, Some, refl, sym, ap, ◌∙◌, arith, sum_by, set, get_or, length, leb, ltb}
+use Rattle.std.proofs.Common.{◌≡◌, ℕ, zero, suc, ◌+◌, ◌-◌, ◌<◌, ◌≤◌, ◌&&◌, ◌/◌, Bool, true, false, List, None, Some, refl, sym, ap, ◌∙◌, arith, sum_by, set, get_or, length, leb, ltb}
 use Rattle.std.specs.declared.option.Option.{Option}
 use Rattle.std.specs.List.{slice_get}
 use Rattle.std.proofs.lemmas.Bool.{cond_both}
 use Rattle.std.proofs.lemmas.Bool.Decides.{nat_tests}
 use Rattle.std.proofs.lemmas.List.Sums.{sum_by-set}
 use Rattle.std.proofs.lemmas.Option.{get_or_from_slice_get, slice_get_within}
-use Rattle.std.specs.Int.{cast_unsigned, w32}
 use Rattle.rv_isa.specs.declared.instr.Instr.{Instr}
 use Rattle.rv_isa.specs.declared.op.Op32.{Op32}
 use Rattle.rv_isa.specs.declared.op.Op32.TheVariants.{Jal, Csrrw, Csrrs}

@@ -1,16 +1,15 @@
 -- A machine in which no thread can make a step.
-use Rattle.std.proofs.Common.{◌≡◌, ℕ, zero, suc, Bool, true, false, cond, not, ◌&&◌, None, Some, refl, sym, ap, ◌∙◌, leb, length, ◌<◌, get_or}
+use Rattle.std.proofs.Common.{◌≡◌, ℕ, zero, suc, Bool, true, false, cond, not, ◌&&◌, None, Some, refl, leb, length, ◌<◌, get_or}
 use Rattle.std.specs.declared.option.Option.{Option}
 use Rattle.std.specs.List.{slice_get, AllPass}
 use Rattle.std.proofs.lemmas.Bool.{cond_both}
 use Rattle.std.proofs.lemmas.Option.{get_or_from_slice_get, slice_get_within}
 use Rattle.std.proofs.lemmas.List.Elements.{All-get_or}
-use Rattle.tn_base.specs.declared.event.Event.{Event}
 use Rattle.tn_base.specs.declared.event.Event.TheVariants.{Turn}
 use Rattle.tn_run.specs.declared.machine.Thread.{Thread}
 use Rattle.tn_run.specs.Machine.{Machine}
 use Rattle.tn_run.specs.Step.{can_step, steps_of}
-use Rattle.tn_run.specs.World.{after, turned_by, with_thread, Rests}
+use Rattle.tn_run.specs.World.{turned_by, with_thread, Rests}
 
 not_true : (b : Bool) → not b ≡ true → b ≡ false
 not_true true e = cc e

@@ -1,5 +1,5 @@
 -- Steps in a row.
-use Rattle.std.proofs.Common.{◌≡◌, ℕ, zero, suc, Bool, true, false, cond, List, Some, None, refl, sym, ap, subst, ◌∙◌}
+use Rattle.std.proofs.Common.{◌≡◌, ℕ, zero, suc, Bool, true, false, cond, List, Some, None, refl, sym, subst}
 use Rattle.std.specs.declared.option.Option.{Option}
 use Rattle.rv_isa.specs.declared.instr.Instr.{Instr}
 use Rattle.tn_run.specs.declared.machine.Thread.{Thread}

@@ -1,5 +1,5 @@
 -- A turn as an event.
-use Rattle.std.proofs.Common.{◌≡◌, ℕ, ◌<◌, ◌≤◌, true, Some, set, refl, arith, sym, ap, ◌∙◌, leb, cond, ◌&&◌}
+use Rattle.std.proofs.Common.{◌≡◌, ℕ, ◌≤◌, true, Some, set, refl, arith, leb}
 use Rattle.std.proofs.lemmas.Bool.Decides.{nat_tests}
 use Rattle.std.specs.List.{slice_get}
 use Rattle.tn_base.specs.declared.event.Event.TheVariants.{Turn}

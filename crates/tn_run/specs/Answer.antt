@@ -3,12 +3,10 @@ use Rattle.std.specs.Prelude.{◌≡◌, ℕ, List, [], None, Some}
 use Rattle.std.specs.declared.result.Result.{Result}
 use Rattle.std.specs.declared.result.Result.TheVariants.{Ok, Err}
 use Rattle.tn_base.specs.declared.event.Outcome.{Outcome}
-use Rattle.tn_base.specs.declared.event.Outcome.TheVariants as Outcome
 use Rattle.tn_base.specs.declared.shape.ShapeNumbers.{ShapeNumbers}
 use Rattle.tn_text.specs.Lines.{lines_of}
 use Rattle.tn_run.specs.declared.job.Refusal.{Refusal}
 use Rattle.tn_run.specs.declared.status.Status.{Status}
-use Rattle.tn_run.specs.declared.status.Status.TheVariants as Status
 use Rattle.tn_run.specs.Job.{job_of}
 use Rattle.tn_run.specs.Kept.{KeptView}
 use Rattle.tn_run.specs.Machine.{Machine}

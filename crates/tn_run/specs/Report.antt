@@ -1,7 +1,6 @@
 -- What is written.
 use Rattle.std.specs.Prelude.{ℕ, ◌+◌, List, [], ◌++◌, ◌∷◌, codes, decimal}
 use Rattle.tn_base.specs.declared.event.Outcome.{Outcome}
-use Rattle.tn_base.specs.declared.event.Outcome.TheVariants as Outcome
 use Rattle.tn_base.specs.declared.event.Trap.{Trap}
 use Rattle.tn_base.specs.declared.event.Trap.TheVariants.{BadInstr, BadFetch, Misaligned, BadAddress, BadCsr, BadDest, SendBusy, RecvEmpty, BadFree, Environment, BadPin, BadLocalKey}
 use Rattle.tn_text.specs.Hex.{hex_word_text}

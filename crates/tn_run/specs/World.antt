@@ -1,15 +1,13 @@
 -- The machine, its events, and its runs.
-use Rattle.std.specs.Prelude.{◌≡◌, ◌≢◌, ℕ, ◌==◌, ◌&&◌, Bool, true, false, not, List, [], ◌∷◌, map, replicate, nat_le, slice_get, slice_set, option_map, option_and_then, IsTrue, ◌<◌, length, MatchOption, if◌then◌else◌}
+use Rattle.std.specs.Prelude.{◌≡◌, ◌≢◌, ℕ, ◌==◌, ◌&&◌, Bool, true, false, not, List, [], ◌∷◌, map, replicate, nat_le, slice_get, slice_set, ◌<◌, length, MatchOption, if◌then◌else◌}
 use Rattle.std.specs.List.{list_any}
 use Rattle.std.specs.declared.option.Option.{Option}
 use Rattle.std.specs.declared.option.Option.TheVariants.{Some, None}
-use Rattle.rv_isa.specs.declared.instr.Instr.{Instr}
 use Rattle.rv_isa.specs.Decode.{decode_of}
 use Rattle.tn_base.specs.declared.ids.ThreadId.{ThreadId}
 use Rattle.tn_base.specs.declared.event.Event.{Event}
 use Rattle.tn_base.specs.declared.event.Event.TheVariants.{Turn}
 use Rattle.tn_base.specs.declared.event.Outcome.{Outcome}
-use Rattle.tn_base.specs.declared.event.Outcome.TheVariants as Outcome
 use Rattle.tn_base.specs.declared.shape.ShapeNumbers.{ShapeNumbers}
 use Rattle.tn_run.specs.declared.machine.Thread.{Thread}
 use Rattle.tn_run.specs.declared.machine.ThreadState.{ThreadState}
