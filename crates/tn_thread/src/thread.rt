@@ -15,7 +15,8 @@ use tn_base::shape::Shape;
 /// The address of the firmware in a graph job.
 pub const FIRMWARE: u32 = 0xFFFF_FFF0;
 
-/// A thread of the machine: what it is doing, its registers, its memory and its counts.
+/// A thread of the machine: what it is doing, its registers, its memory and its counts. Its tile lends the
+/// registers to the instruction, and `Thread::apply` does the rest of the step.
 #[derive(Drop)]
 pub struct Thread {
     pub(crate) id: ThreadId,
@@ -23,7 +24,7 @@ pub struct Thread {
     pub(crate) firmware: bool,
     pub(crate) state: ThreadState,
     pub(crate) pc: u32,
-    pub(crate) regs: Regs,
+    pub regs: Regs,
     pub(crate) steps: u32,
     pub(crate) sends: u32,
     pub(crate) given: u32,
