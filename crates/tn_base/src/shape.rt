@@ -148,7 +148,6 @@ impl Shape {
     }
 
     /// The numbers that the machine is made of.
-    #[inline(always)]
     pub fn numbers(&self) -> ShapeNumbers
         ensures value { result ≡ self.now }
         ensures limits { WithinLimits self.now }

@@ -4,7 +4,7 @@ ghost use Rattle.std.specs.Prelude.{◌≡◌, ◌≤◌, ◌<◌, ◌+◌, ◌*
 ghost use Rattle.tn_thread.specs.Fits.{StepFits};
 ghost use Rattle.tn_thread.specs.Memory.{extended, is_width, sign_filled, value_at};
 ghost use Rattle.tn_thread.specs.Registers.{register_of};
-ghost use Rattle.tn_thread.specs.Step.{FitsStep, IsWithin, Stepped, answered, completed, dest_of, freed, got, is_idle, loaded, place_of, read_by, resumed, runnable, sent, stepped, stored, trapped, went, went_to, write_by};
+ghost use Rattle.tn_thread.specs.Step.{FitsStep, IsWithin, Stepped, answered, completed, dest_of, freed, got, is_idle, loaded, place_of, read_by, resumed, runnable, sent, stepped, stored, trapped, went, went_to, write_by, write_row};
 
 use crate::place::Place;
 use crate::register::Register;
@@ -149,7 +149,7 @@ impl Thread {
 
     /// Reads a value into a register, and goes on.
     #[inline(always)]
-    fn get(&mut self, rd: u8, value: u32, op: Op) -> Op
+    fn finish_read(&mut self, rd: u8, value: u32, op: Op) -> Op
         requires room { self.old.steps + 1 < 2 ^ 32 }
         requires rd { rd < 32 }
         ensures { record { thread = self.new; op = result } ≡ got rd value op self.old }
@@ -204,16 +204,16 @@ impl Thread {
         match self.place(addr, width) {
             Place::Private(at) => {
                 let value = self.mem.value_at(at as usize, width);
-                self.get(rd, extend(width, signed, value), Op::None)
+                self.finish_read(rd, extend(width, signed, value), Op::None)
             }
             Place::SendSlot(at) => {
                 let value = self.out.value_at(at as usize, width);
-                self.get(rd, extend(width, signed, value), Op::None)
+                self.finish_read(rd, extend(width, signed, value), Op::None)
             }
             Place::Received(slot, at) => match view.held(slot) {
                 Some(message) => {
                     let value = message_value(message, at as usize, width);
-                    self.get(rd, extend(width, signed, value), Op::None)
+                    self.finish_read(rd, extend(width, signed, value), Op::None)
                 }
                 None => self.trap(Trap::BadAddress),
             },
@@ -256,17 +256,17 @@ impl Thread {
             return self.trap(Trap::BadCsr);
         }
         match register {
-            Register::HartId => self.get(rd, self.id.0, Op::None),
-            Register::CanSend => self.get(rd, u32::from(view.can_send()), Op::None),
-            Register::CanRecv => self.get(rd, u32::from(view.first().is_some()), Op::None),
+            Register::HartId => self.finish_read(rd, self.id.0, Op::None),
+            Register::CanSend => self.finish_read(rd, u32::from(view.can_send()), Op::None),
+            Register::CanRecv => self.finish_read(rd, u32::from(view.first().is_some()), Op::None),
             Register::Recv => match view.first() {
                 Some(slot) => {
                     let address = RECEIVED + self.out.len() as u32 * u32::from(slot);
-                    self.get(rd, address, Op::Hand)
+                    self.finish_read(rd, address, Op::Hand)
                 }
                 None => self.trap(Trap::RecvEmpty),
             },
-            Register::SendSlot => self.get(rd, SEND_SLOT, Op::None),
+            Register::SendSlot => self.finish_read(rd, SEND_SLOT, Op::None),
             _ => self.trap(Trap::BadCsr),
         }
     }
@@ -283,6 +283,15 @@ impl Thread {
         if self.firmware || !register.may_write(rd) {
             return self.trap(Trap::BadCsr);
         }
+        self.write_register(register, rd, value, view)
+    }
+
+    /// A write of a control register that may be written.
+    fn write_register<V: View>(&mut self, register: Register, rd: u8, value: u32, view: &V) -> Op
+        requires room { self.old.steps + 1 < 2 ^ 32 }
+        requires rd { rd < 32 }
+        ensures { record { thread = self.new; op = result } ≡ write_row register rd value (V.sight view.now) self.old }
+    {
         match register {
             Register::SendLen => {
                 self.out.set_last(value);
