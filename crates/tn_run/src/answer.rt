@@ -1,7 +1,6 @@
 //! From an input to its answer.
-ghost use Rattle.std.specs.Prelude.{◌≡◌, ◌≤◌, ◌<◌, ◌^◌, IfOk, length, None, []};
+ghost use Rattle.std.specs.Prelude.{◌≡◌, ◌≤◌, IfOk, length, None, []};
 ghost use Rattle.tn_run.specs.Answer.{IsAnswer, IsRunOf, start_of};
-ghost use Rattle.tn_run.specs.Plain.{Plain};
 
 use crate::job::{JobStop, PlainJob, read_job};
 use crate::kept::Kept;

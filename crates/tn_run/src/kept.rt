@@ -1,6 +1,5 @@
 //! What is kept of a call.
-ghost use Rattle.std.specs.Prelude.{◌≡◌, None, Some, []};
-ghost use Rattle.std.specs.Prelude.{option_copied};
+ghost use Rattle.std.specs.Prelude.{◌≡◌, None, [], option_copied};
 
 use crate::history::History;
 use crate::world::World;

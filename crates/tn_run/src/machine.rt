@@ -1,5 +1,5 @@
 //! A thread, and one step of it.
-ghost use Rattle.std.specs.Prelude.{◌≡◌, ◌+◌, ◌-◌, ◌^◌, ◌<◌, ◌≤◌, IsTrue, Some, false};
+ghost use Rattle.std.specs.Prelude.{◌≡◌, ◌-◌, ◌^◌, ◌<◌, ◌≤◌, IsTrue, Some, false};
 ghost use Rattle.tn_run.specs.Step.{thread_start, is_dead, can_step, step_by, executed, jumped, written, read, trapped, steps_of};
 
 use rv_isa::instr::Instr;

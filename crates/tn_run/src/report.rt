@@ -1,5 +1,5 @@
 //! The lines that a run writes.
-ghost use Rattle.std.specs.Prelude.{◌≡◌, ◌++◌, ◌≤◌, List, ℕ, IfOk, OnOk, length, codes, decimal};
+ghost use Rattle.std.specs.Prelude.{◌≡◌, ◌++◌, ◌≤◌, IfOk, OnOk, length, codes};
 ghost use Rattle.tn_text.specs.Hex.{hex_word_text};
 ghost use Rattle.tn_run.specs.Report.{kind_text, refusal_text, trap_text, exit_text, exits_text, outcome_text, report_text};
 

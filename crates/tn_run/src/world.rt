@@ -1,6 +1,6 @@
 //! The machine: threads over one code.
 ghost use Rattle.std.specs.List.{AllPass, list_any};
-ghost use Rattle.std.specs.Prelude.{map, not, replicate, ◌≡◌, ◌≤◌, ◌<◌, ◌+◌, ◌^◌, ℕ, Some, None, false, IfOk, IfSome, OnErr, IsTrue, MatchOption, length, slice_get};
+ghost use Rattle.std.specs.Prelude.{map, not, replicate, ◌≡◌, ◌≤◌, ◌<◌, ◌+◌, Some, None, IfOk, IfSome, MatchOption, length};
 ghost use Rattle.rv_isa.specs.Decode.{decode_of};
 ghost use Rattle.tn_base.specs.declared.ids.ThreadId.{ThreadId};
 ghost use Rattle.tn_base.specs.declared.event.Event.TheVariants as Event;
@@ -27,7 +27,6 @@ pub struct World {
 impl Model for World {
     ghost use Rattle.std.specs.Prelude.{◌≡◌, vec_len};
     ghost use Rattle.tn_run.specs.Machine.{Machine};
-    ghost use Rattle.tn_base.specs.Shape.{WithinLimits};
 
     ghost Value = { Machine };
 
