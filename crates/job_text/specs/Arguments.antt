@@ -1,10 +1,12 @@
 -- The words behind the first one of a line.
-use Rattle.std.specs.Prelude.{ℕ, ◌==◌, Bool, true, List, [], ◌∷◌, length, if◌then◌else◌, Option, Some, None}
+use Rattle.std.specs.Prelude.{ℕ, ◌==◌, Bool, true, List, [], ◌∷◌, length, if◌then◌else◌, Option, Some, None, codes, bytes_eq}
 use Rattle.std.specs.declared.result.Result.{Result}
 use Rattle.std.specs.declared.result.Result.TheVariants.{Ok, Err}
 use Rattle.tn_text.specs.declared.numbers.Numeral.{Numeral}
 use Rattle.tn_text.specs.declared.numbers.Numeral.TheVariants.{Value, TooLarge, NoNumber}
 use Rattle.tn_text.specs.Numbers.{number_of}
+use Rattle.job_text.specs.declared.job.Owner.{Owner}
+use Rattle.job_text.specs.declared.job.Owner.TheVariants.{All, Tile}
 use Rattle.job_text.specs.declared.job.JobKind.{JobKind}
 use Rattle.job_text.specs.declared.job.JobKind.TheVariants.{BadLine, BadNumber}
 
@@ -46,3 +48,23 @@ abbrev pub taken_of : Bool → Numeral ℕ → Result (ℕ × Bool) JobKind
 taken_of large NoNumber = Err BadLine
 taken_of large (Value n) = Ok (n, large)
 taken_of large TooLarge = Ok (0, true)
+
+abbrev pub number_by : Option (List ℕ) → Result ℕ JobKind
+number_by None = Err BadLine
+number_by (Some w) = one_number_of (number_of w)
+
+-- the one word, which is a number
+abbrev pub number_in : List (List ℕ) → Result ℕ JobKind
+number_in words = number_by (one_of words)
+
+abbrev pub tile_owner : Result ℕ JobKind → Result Owner JobKind
+tile_owner (Ok tile) = Ok (Tile tile)
+tile_owner (Err kind) = Err kind
+
+abbrev pub owner_by : Option (List ℕ) → Result Owner JobKind
+owner_by None = Err BadLine
+owner_by (Some w) = if bytes_eq w (codes "all") then Ok All else tile_owner (one_number_of (number_of w))
+
+-- `all`, or a tile's address
+abbrev pub owner_in : List (List ℕ) → Result Owner JobKind
+owner_in words = owner_by (one_of words)

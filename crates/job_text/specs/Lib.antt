@@ -1,2 +1,5 @@
 pub mod Seen
 pub mod Arguments
+pub mod Keyword
+pub mod Text
+pub mod Gives

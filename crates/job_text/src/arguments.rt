@@ -4,12 +4,12 @@ ghost use Rattle.std.specs.Prelude.{◌≡◌, length, option_map, MatchResult};
 ghost use Rattle.std.specs.declared.result.Result.TheVariants.{Ok, Err};
 ghost use Rattle.tn_text.specs.Numbers.{number_of};
 ghost use Rattle.tn_text.specs.Words.{words_of};
-ghost use Rattle.job_text.specs.Arguments.{exactly, taken_of, one_number_of, one_of, two_of, three_of};
+ghost use Rattle.job_text.specs.Arguments.{exactly, taken_of, one_number_of, one_of, two_of, three_of, number_in, owner_in};
 
 use tn_text::numbers::{Numeral, number};
 use tn_text::words::first_word;
 
-use crate::job::JobKind;
+use crate::job::{JobKind, Owner};
 
 pub(crate) fn one_number(word: &[u8]) -> Result<u32, JobKind>
     ensures { result ≡ one_number_of (number_of word.now) }
@@ -87,4 +87,30 @@ pub(crate) fn numbers<const N: usize>(line: &[u8]) -> Result<[u32; N], JobKind>
     let mut values = [0; N];
     read_numbers(line, &mut values)?;
     Ok(values)
+}
+
+/// The number of a line that has one word.
+pub(crate) fn number_alone(line: &[u8]) -> Result<u32, JobKind>
+    ensures { result ≡ number_in (words_of line.now) }
+{
+    match one_word(line) {
+        Some(word) => one_number(word),
+        None => Err(JobKind::BadLine),
+    }
+}
+
+/// The owner that a line's one word names.
+pub(crate) fn find_owner(line: &[u8]) -> Result<Owner, JobKind>
+    ensures { result ≡ owner_in (words_of line.now) }
+{
+    let Some(word) = one_word(line) else {
+        return Err(JobKind::BadLine);
+    };
+    if word == b"all".as_slice() {
+        return Ok(Owner::All);
+    }
+    match one_number(word) {
+        Ok(tile) => Ok(Owner::Tile(tile)),
+        Err(kind) => Err(kind),
+    }
 }

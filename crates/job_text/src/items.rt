@@ -44,4 +44,13 @@ impl<T> Items<T> {
         self.items.push(item)?;
         Ok(())
     }
+
+    /// Appends items. A list that is refused stays as it was.
+    pub fn extend(&mut self, items: &[T]) -> Result<(), AllocError>
+    where
+        T: Copy,
+        ensures { self.new ≡ (if is_ok result then self.old ++ items.now else self.old) }
+    {
+        self.items.extend_from_slice(items)
+    }
 }

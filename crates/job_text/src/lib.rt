@@ -5,6 +5,8 @@
 #![tactic(auto)]
 
 mod arguments;
+mod draft;
 pub mod items;
 pub mod job;
+mod keyword;
 mod seen;
