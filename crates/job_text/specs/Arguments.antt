@@ -1,5 +1,5 @@
 -- The words behind the first one of a line.
-use Rattle.std.specs.Prelude.{ℕ, ◌==◌, Bool, true, List, [], ◌∷◌, length, if◌then◌else◌, Option, Some, None, codes, bytes_eq}
+use Rattle.std.specs.Prelude.{ℕ, ◌==◌, Bool, true, List, [], ◌∷◌, length, if◌then◌else◌, Option, Some, None, codes, bytes_eq, slice_index}
 use Rattle.std.specs.declared.result.Result.{Result}
 use Rattle.std.specs.declared.result.Result.TheVariants.{Ok, Err}
 use Rattle.tn_text.specs.declared.numbers.Numeral.{Numeral}
@@ -68,3 +68,7 @@ owner_by (Some w) = if bytes_eq w (codes "all") then Ok All else tile_owner (one
 -- `all`, or a tile's address
 abbrev pub owner_in : List (List ℕ) → Result Owner JobKind
 owner_in words = owner_by (one_of words)
+
+abbrev pub pair_in : Result (List ℕ) JobKind → Result (ℕ × ℕ) JobKind
+pair_in (Ok ns) = Ok (slice_index ns 0, slice_index ns 1)
+pair_in (Err kind) = Err kind

@@ -1,5 +1,5 @@
 -- What a call answers, where memory may be wanting.
-use Rattle.std.specs.Prelude.{◌≡◌}
+use Rattle.std.specs.Prelude.{◌≡◌, ℕ}
 use Rattle.std.specs.declared.result.Result.{Result}
 use Rattle.std.specs.declared.result.Result.TheVariants.{Ok, Err}
 use Rattle.job_text.specs.declared.job.JobKind.{JobKind}
@@ -26,3 +26,12 @@ IsStop (stops.Fault fault) read = read ≡ Err fault
 abbrev pub Gives : {Y : Type 0} → Result Y JobStop → Result Y JobFault → Type 0
 Gives (Ok x) read = read ≡ Ok x
 Gives (Err stop) read = IsStop stop read
+
+-- the same of a value that stands on the line
+abbrev pub GivesValue : {Y : Type 0} → Result Y LineStop → Result Y JobKind → Type 0
+GivesValue (Ok x) read = read ≡ Ok x
+GivesValue (Err stop) read = IsLineStop stop read
+
+abbrev pub stop_at : ℕ → LineStop → JobStop
+stop_at line line_stops.Memory = stops.Memory
+stop_at line (line_stops.Kind kind) = stops.Fault (record { line = line; kind = kind })

@@ -6,6 +6,7 @@ use Rattle.tn_base.specs.declared.shape.ShapeNumbers.{ShapeNumbers}
 use Rattle.tn_text.specs.Lines.{lines_of}
 use Rattle.tn_text.specs.Content.{content_of, is_plain}
 use Rattle.tn_text.specs.Words.{words_of}
+use Rattle.tn_text.specs.Numbers.{number_of}
 use Rattle.tn_text.specs.Hex.{hex_bytes_of, hex_array_of, hex_word_of}
 use Rattle.job_text.specs.declared.job.Owner.{Owner}
 use Rattle.job_text.specs.declared.job.Owner.TheVariants.{All, Tile}
@@ -22,7 +23,7 @@ use Rattle.job_text.specs.declared.draft.Place.{Place}
 use Rattle.job_text.specs.declared.draft.Place.TheVariants.{AtHeader, AtShape, AtSettings, AtSections, InCode, InAsm, InTable, InGraph}
 use Rattle.job_text.specs.declared.draft.Draft.{Draft}
 use Rattle.job_text.specs.Seen.{has, with_number}
-use Rattle.job_text.specs.Arguments.{numbers_of, exactly, one_of, two_of, three_of, number_in, owner_in}
+use Rattle.job_text.specs.Arguments.{numbers_of, exactly, one_of, two_of, three_of, number_in, one_number_of, pair_in, owner_in}
 use Rattle.job_text.specs.Keyword.{keyword_of, setting_in, with_setting}
 
 infixl 10 ◌>>=◌
@@ -56,7 +57,7 @@ version_by (Some words) = if bytes_eq words.0 (codes "tinsel") then version_numb
 
 abbrev pub headed : Draft → ℕ → Option ℕ → Result Draft JobKind
 headed d n None = Err Header
-headed d n (Some version) = Ok (record d { place = AtShape n; job = record d.job { version = version; numbers = record d.job.numbers { version = version } } })
+headed d n (Some version) = Ok (record d { place = AtShape (n + 1); job = record d.job { version = version; numbers = record d.job.numbers { version = version } } })
 
 abbrev pub header_line : Draft → ℕ → List (List ℕ) → Result Draft JobKind
 header_line d n [] = Ok d
@@ -130,8 +131,8 @@ fill_bytes (Some bytes) = if nat_le (length bytes) 4096 then Ok bytes else Err B
 abbrev pub fill_by : Draft → ℕ → Option (List ℕ × List ℕ × List ℕ) → Result Draft JobKind
 fill_by d n None = Err BadLine
 fill_by d n (Some words) =
-    fill_bytes (hex_bytes_of words.2) >>= λ bytes. numbers_of (words.0 ∷ words.1 ∷ []) >>= λ ns.
-    Ok (record d { place = AtSections; job = record d.job { fills = d.job.fills ++ record { line = n; thread = slice_index ns 0; address = slice_index ns 1; bytes = bytes } ∷ [] } })
+    fill_bytes (hex_bytes_of words.2) >>= λ bytes. pair_in (numbers_of (words.0 ∷ words.1 ∷ [])) >>= λ ns.
+    Ok (record d { place = AtSections; job = record d.job { fills = d.job.fills ++ record { line = n; thread = ns.0; address = ns.1; bytes = bytes } ∷ [] } })
 
 abbrev pub scripted : Draft → ℕ → ScriptText → Draft
 scripted d n item = record d { place = AtSections; job = record d.job { script = d.job.script ++ record { line = n; item = item } ∷ [] } }
@@ -143,8 +144,8 @@ send_bytes (Some bytes) = Ok bytes
 abbrev pub send_by : Draft → ℕ → Option (List ℕ × List ℕ) → Result Draft JobKind
 send_by d n None = Err BadLine
 send_by d n (Some words) =
-    send_bytes (hex_bytes_of words.1) >>= λ bytes. numbers_of (words.0 ∷ []) >>= λ ns.
-    Ok (scripted d n (Send (slice_index ns 0) bytes))
+    send_bytes (hex_bytes_of words.1) >>= λ bytes. one_number_of (number_of words.0) >>= λ thread.
+    Ok (scripted d n (Send thread bytes))
 
 abbrev pub idle_line : Draft → ℕ → List (List ℕ) → Result Draft JobKind
 idle_line d n [] = Ok (scripted d n Idle)
@@ -196,14 +197,13 @@ abbrev pub beat_added : Draft → ℕ → Option (List ℕ) → Result Draft Job
 beat_added d n None = Err BadWord
 beat_added d n (Some bytes) = if nat_lt (length d.beats) 65536 then Ok (record d { beats = d.beats ++ record { line = n; bytes = bytes } ∷ [] }) else Err TooMany
 
-abbrev pub beat_by : Draft → ℕ → Place → Option (List ℕ) → Result Draft JobKind
-beat_by d n (InTable line x y) None = Err BadWord
-beat_by d n (InTable line x y) (Some w) = if bytes_eq w (codes "end") then Ok (table_ended d line x y) else beat_added d n (hex_array_of 32 w)
-beat_by d n _ words = Err BadWord
+abbrev pub beat_by : Draft → ℕ → ℕ → ℕ → ℕ → Option (List ℕ) → Result Draft JobKind
+beat_by d n line x y None = Err BadWord
+beat_by d n line x y (Some w) = if bytes_eq w (codes "end") then Ok (table_ended d line x y) else beat_added d n (hex_array_of 32 w)
 
 abbrev pub beat_line : Draft → ℕ → ℕ → ℕ → ℕ → List (List ℕ) → Result Draft JobKind
 beat_line d n line x y [] = Ok d
-beat_line d n line x y (w ∷ ws) = beat_by d n (InTable line x y) (one_of (w ∷ ws))
+beat_line d n line x y (w ∷ ws) = beat_by d n line x y (one_of (w ∷ ws))
 
 -- a line as it stands, without comment and outer spaces, and a line feed
 abbrev pub text_added : Draft → List ℕ → Draft
@@ -226,12 +226,12 @@ graph_line d line content = if bytes_eq content (codes "end") then Ok (graph_end
 -- a byte that may not stand
 abbrev pub foreign_byte : Place → JobKind
 foreign_byte AtHeader = Header
-foreign_byte (AtShape header) = NoShape
+foreign_byte (AtShape line) = NoShape
 foreign_byte _ = BadLine
 
 abbrev pub content_line : Place → Draft → ℕ → List ℕ → Result Draft JobKind
 content_line AtHeader d n content = header_line d n (words_of content)
-content_line (AtShape header) d n content = shape_line d n (words_of content)
+content_line (AtShape line) d n content = shape_line d n (words_of content)
 content_line AtSettings d n content = entry_line d n content (words_of content)
 content_line AtSections d n content = entry_line d n content (words_of content)
 content_line (InCode line owner) d n content = word_line d line owner (words_of content)
@@ -251,7 +251,7 @@ fault line kind = Err (record { line = line; kind = kind })
 -- at the text's end, behind so many lines
 abbrev pub ended : Place → Draft → ℕ → Result Job JobFault
 ended AtHeader d lines = fault 1 Header
-ended (AtShape header) d lines = fault (header + 1) NoShape
+ended (AtShape line) d lines = fault line NoShape
 ended AtSettings d lines = Ok d.job
 ended AtSections d lines = Ok d.job
 ended (InCode line owner) d lines = fault lines NoEnd

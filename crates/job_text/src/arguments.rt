@@ -1,10 +1,10 @@
 //! The words behind the first one of a line.
 
-ghost use Rattle.std.specs.Prelude.{◌≡◌, length, option_map, MatchResult};
+ghost use Rattle.std.specs.Prelude.{◌≡◌, [], ◌∷◌, length, option_map, MatchResult};
 ghost use Rattle.std.specs.declared.result.Result.TheVariants.{Ok, Err};
 ghost use Rattle.tn_text.specs.Numbers.{number_of};
 ghost use Rattle.tn_text.specs.Words.{words_of};
-ghost use Rattle.job_text.specs.Arguments.{exactly, taken_of, one_number_of, one_of, two_of, three_of, number_in, owner_in};
+ghost use Rattle.job_text.specs.Arguments.{exactly, taken_of, one_number_of, one_of, two_of, three_of, number_in, owner_in, pair_in, numbers_of};
 
 use tn_text::numbers::{Numeral, number};
 use tn_text::words::first_word;
@@ -112,5 +112,16 @@ pub(crate) fn find_owner(line: &[u8]) -> Result<Owner, JobKind>
     match one_number(word) {
         Ok(tile) => Ok(Owner::Tile(tile)),
         Err(kind) => Err(kind),
+    }
+}
+
+/// Two numbers.
+pub(crate) fn two_numbers(first: &[u8], second: &[u8]) -> Result<(u32, u32), JobKind>
+    ensures { result ≡ pair_in (numbers_of (first.now ∷ second.now ∷ [])) }
+{
+    match (number(first), number(second)) {
+        (Numeral::Value(first), Numeral::Value(second)) => Ok((first, second)),
+        (Numeral::NoNumber, _) | (_, Numeral::NoNumber) => Err(JobKind::BadLine),
+        _ => Err(JobKind::BadNumber),
     }
 }

@@ -1,6 +1,6 @@
 //! Lists that only grow.
 
-ghost use Rattle.std.specs.Prelude.{◌≡◌, [], ◌∷◌, ◌++◌, is_ok, if◌then◌else◌};
+ghost use Rattle.std.specs.Prelude.{◌≡◌, [], ◌∷◌, ◌++◌, length, is_ok, if◌then◌else◌};
 
 use std::alloc::{AllocError, Global};
 use std::marker::Model;
@@ -52,5 +52,22 @@ impl<T> Items<T> {
         ensures { self.new ≡ (if is_ok result then self.old ++ items.now else self.old) }
     {
         self.items.extend_from_slice(items)
+    }
+
+    /// How many items there are.
+    pub fn len(&self) -> usize
+        ensures { result ≡ length self.now }
+    {
+        self.items.len()
+    }
+}
+
+impl<T> From<Vec<T>> for Items<T> {
+    ghost use Rattle.std.specs.Prelude.{◌≡◌};
+
+    ghost from_gives = { λ vec items. items ≡ vec.items };
+
+    fn from(items: Vec<T>) -> Items<T> {
+        Items { items }
     }
 }

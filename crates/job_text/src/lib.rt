@@ -9,4 +9,5 @@ mod draft;
 pub mod items;
 pub mod job;
 mod keyword;
+pub mod read;
 mod seen;
