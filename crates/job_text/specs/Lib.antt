@@ -3,3 +3,4 @@ pub mod Arguments
 pub mod Keyword
 pub mod Text
 pub mod Gives
+pub mod Printed

@@ -9,5 +9,6 @@ mod draft;
 pub mod items;
 pub mod job;
 mod keyword;
+pub mod print;
 pub mod read;
 mod seen;
