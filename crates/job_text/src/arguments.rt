@@ -6,10 +6,9 @@ ghost use Rattle.tn_text.specs.Numbers.{number_of};
 ghost use Rattle.tn_text.specs.Words.{words_of};
 ghost use Rattle.job_text.specs.Arguments.{exactly, taken_of, one_number_of, one_of, two_of, three_of, number_in, owner_in, pair_in, numbers_of};
 
+use crate::job::{JobKind, Owner};
 use tn_text::numbers::{Numeral, number};
 use tn_text::words::first_word;
-
-use crate::job::{JobKind, Owner};
 
 pub(crate) fn one_number(word: &[u8]) -> Result<u32, JobKind>
     ensures { result ≡ one_number_of (number_of word.now) }
@@ -77,7 +76,11 @@ fn read_numbers(line: &[u8], values: &mut [u32]) -> Result<(), JobKind>
     if first_word(rest).is_some() {
         return Err(JobKind::BadLine);
     }
-    if too_large { Err(JobKind::BadNumber) } else { Ok(()) }
+    if too_large {
+        Err(JobKind::BadNumber)
+    } else {
+        Ok(())
+    }
 }
 
 /// The numbers of a line that has `N` words, each of them a number.

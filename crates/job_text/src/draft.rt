@@ -8,19 +8,22 @@ ghost use Rattle.job_text.specs.Arguments.{two_of, three_of};
 ghost use Rattle.job_text.specs.Text.{all_at as all_lines_at, default_numbers as numbers_by_default, start, version_by, header_line, shape_line, setting_line as setting_line_of, owner_named, code_head, asm_head, table_head, graph_head, fill_by, fill_bytes as fill_bytes_of, send_by, send_bytes as send_bytes_of, scripted, text_added, host_line, entry_line, word_line, beat_added, beat_line, asm_line, graph_line, foreign_byte, content_line, step, ended};
 ghost use Rattle.job_text.specs.Gives.{Takes, Gives, GivesValue};
 
+use crate::arguments::{
+    find_owner, number_alone, numbers, one_number, one_word, three_words, two_numbers, two_words,
+};
+use crate::items::Items;
+use crate::job::{
+    BeatLine, CodeSection, FillLine, Job, JobFault, JobKind, JobStop, Owner, ScriptLine,
+    ScriptText, TableSection, TextSection,
+};
+use crate::keyword::{Keyword, Setting, find_keyword, setting_of, with_setting};
+use crate::seen::NumberSet;
 use std::alloc::{AllocError, Global};
 use std::mem;
-
 use tn_base::shape::ShapeNumbers;
 use tn_text::content::{content, is_plain};
 use tn_text::hex::{hex_array, hex_bytes, hex_word};
 use tn_text::words::first_word;
-
-use crate::arguments::{find_owner, number_alone, numbers, one_number, one_word, three_words, two_numbers, two_words};
-use crate::items::Items;
-use crate::job::{BeatLine, CodeSection, FillLine, Job, JobFault, JobKind, JobStop, Owner, ScriptLine, ScriptText, TableSection, TextSection};
-use crate::keyword::{Keyword, Setting, find_keyword, setting_of, with_setting};
-use crate::seen::NumberSet;
 
 /// The most words of a `code` section.
 const WORDS: usize = 16_384;
@@ -310,14 +313,23 @@ impl Draft {
         ensures { Takes result self.new (table_head self.old number (words_of rest.now)) }
     {
         let [x, y] = numbers::<2>(rest)?;
-        if !self.boards.add(u64::from(x) * 0x1_0000_0000 + u64::from(y))? {
+        if !self
+            .boards
+            .add(u64::from(x) * 0x1_0000_0000 + u64::from(y))?
+        {
             return Err(LineStop::Kind(JobKind::Twice));
         }
         self.place = Place::InTable(number, x, y);
         Ok(())
     }
 
-    fn graph_head(&mut self, alloc: Global, number: u32, line: &[u8], rest: &[u8]) -> Result<(), LineStop>
+    fn graph_head(
+        &mut self,
+        alloc: Global,
+        number: u32,
+        line: &[u8],
+        rest: &[u8],
+    ) -> Result<(), LineStop>
         ensures { Takes result self.new (graph_head self.old number line.now (words_of rest.now)) }
     {
         let [_, _] = numbers::<2>(rest)?;
@@ -406,7 +418,13 @@ impl Draft {
         }
     }
 
-    fn word_line(&mut self, alloc: Global, head: u32, owner: Owner, line: &[u8]) -> Result<(), LineStop>
+    fn word_line(
+        &mut self,
+        alloc: Global,
+        head: u32,
+        owner: Owner,
+        line: &[u8],
+    ) -> Result<(), LineStop>
         ensures { Takes result self.new (word_line self.old head owner (words_of line.now)) }
     {
         if first_word(line).is_none() {
@@ -451,7 +469,15 @@ impl Draft {
         Ok(())
     }
 
-    fn beat_line(&mut self, alloc: Global, number: u32, head: u32, x: u32, y: u32, line: &[u8]) -> Result<(), LineStop>
+    fn beat_line(
+        &mut self,
+        alloc: Global,
+        number: u32,
+        head: u32,
+        x: u32,
+        y: u32,
+        line: &[u8],
+    ) -> Result<(), LineStop>
         ensures { Takes result self.new (beat_line self.old number head x y (words_of line.now)) }
     {
         if first_word(line).is_none() {
@@ -482,7 +508,13 @@ impl Draft {
         Ok(())
     }
 
-    fn asm_line(&mut self, alloc: Global, head: u32, owner: Owner, line: &[u8]) -> Result<(), LineStop>
+    fn asm_line(
+        &mut self,
+        alloc: Global,
+        head: u32,
+        owner: Owner,
+        line: &[u8],
+    ) -> Result<(), LineStop>
         ensures { Takes result self.new (asm_line self.old head owner line.now) }
     {
         if line != b"end".as_slice() {
@@ -515,7 +547,12 @@ impl Draft {
     }
 
     /// Takes the next line, whose number is given. Behind an error the draft is of no use.
-    pub(crate) fn take_line(&mut self, alloc: Global, number: u32, line: &[u8]) -> Result<(), LineStop>
+    pub(crate) fn take_line(
+        &mut self,
+        alloc: Global,
+        number: u32,
+        line: &[u8],
+    ) -> Result<(), LineStop>
         requires { number < 2 ^ 32 - 1 }
         ensures { Takes result self.new (step self.old number line.now) }
     {

@@ -1,8 +1,7 @@
 //! A job, as its text says it.
 
-use tn_base::shape::ShapeNumbers;
-
 use crate::items::Items;
+use tn_base::shape::ShapeNumbers;
 
 /// Whose code a section gives.
 #[derive(Clone, Copy, PartialEq, Eq, Debug)]

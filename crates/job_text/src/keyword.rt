@@ -82,10 +82,25 @@ pub(crate) fn with_setting(setting: Setting, number: u32, numbers: ShapeNumbers)
     ensures { result ≡ numbers_with setting number numbers }
 {
     match setting {
-        Setting::Slots => ShapeNumbers { slots: number, ..numbers },
-        Setting::Link => ShapeNumbers { link: number, ..numbers },
-        Setting::Mem => ShapeNumbers { mem: number, ..numbers },
-        Setting::Fuel => ShapeNumbers { fuel: number, ..numbers },
-        Setting::Turn => ShapeNumbers { turn: number, ..numbers },
+        Setting::Slots => ShapeNumbers {
+            slots: number,
+            ..numbers
+        },
+        Setting::Link => ShapeNumbers {
+            link: number,
+            ..numbers
+        },
+        Setting::Mem => ShapeNumbers {
+            mem: number,
+            ..numbers
+        },
+        Setting::Fuel => ShapeNumbers {
+            fuel: number,
+            ..numbers
+        },
+        Setting::Turn => ShapeNumbers {
+            turn: number,
+            ..numbers
+        },
     }
 }

@@ -12,3 +12,5 @@ mod keyword;
 pub mod print;
 pub mod read;
 mod seen;
+#[cfg(test)]
+mod tests;

@@ -3,12 +3,12 @@
 ghost use Rattle.std.specs.Prelude.{◌≡◌, ◌++◌, IfOk, OnOk, decimal, flat_map};
 ghost use Rattle.job_text.specs.Printed.{spaced, header_text, shape_text, setting_text, settings_text, owner_text, end_text, word_text, code_text, asm_text, fill_text, beat_text, table_text, script_text, graph_text, sections_text, text_of};
 
+use crate::job::{
+    BeatLine, CodeSection, FillLine, Job, Owner, ScriptLine, ScriptText, TableSection, TextSection,
+};
 use std::alloc::{AllocError, Global};
-
 use tn_base::shape::ShapeNumbers;
 use tn_text::print::{push_decimal, push_hex, push_hex_word};
-
-use crate::job::{BeatLine, CodeSection, FillLine, Job, Owner, ScriptLine, ScriptText, TableSection, TextSection};
 
 fn push_number(alloc: Global, text: &mut Vec<u8>, number: u32) -> Result<(), AllocError>
     ensures { OnOk result (text.new.items ≡ text.old.items ++ spaced (decimal number)) }
@@ -40,7 +40,12 @@ fn push_shape(alloc: Global, text: &mut Vec<u8>, numbers: &ShapeNumbers) -> Resu
     Ok(())
 }
 
-fn push_setting(alloc: Global, text: &mut Vec<u8>, name: &[u8], number: u32) -> Result<(), AllocError>
+fn push_setting(
+    alloc: Global,
+    text: &mut Vec<u8>,
+    name: &[u8],
+    number: u32,
+) -> Result<(), AllocError>
     ensures { OnOk result (text.new.items ≡ text.old.items ++ setting_text name.now number) }
 {
     text.extend_from_slice(name)?;
@@ -49,7 +54,11 @@ fn push_setting(alloc: Global, text: &mut Vec<u8>, name: &[u8], number: u32) -> 
     Ok(())
 }
 
-fn push_settings(alloc: Global, text: &mut Vec<u8>, numbers: &ShapeNumbers) -> Result<(), AllocError>
+fn push_settings(
+    alloc: Global,
+    text: &mut Vec<u8>,
+    numbers: &ShapeNumbers,
+) -> Result<(), AllocError>
     ensures { OnOk result (text.new.items ≡ text.old.items ++ settings_text numbers.now) }
 {
     push_setting(alloc, text, b"slots".as_slice(), numbers.slots)?;

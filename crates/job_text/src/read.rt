@@ -5,12 +5,10 @@ ghost use Rattle.tn_text.specs.Lines.{lines_of};
 ghost use Rattle.job_text.specs.Text.{job_of};
 ghost use Rattle.job_text.specs.Gives.{Gives, stop_at};
 
-use std::alloc::Global;
-
-use tn_text::lines::first_line;
-
 use crate::draft::{Draft, LineStop};
 use crate::job::{Job, JobFault, JobStop};
+use std::alloc::Global;
+use tn_text::lines::first_line;
 
 fn stopped(line: u32, stop: LineStop) -> JobStop
     ensures { result ≡ stop_at line stop }

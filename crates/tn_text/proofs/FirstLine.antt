@@ -1,7 +1,7 @@
 -- The lines of a text.
-use Rattle.std.proofs.Common.{◌≡◌, ℕ, ◌+◌, ◌<◌, true, false, List, [], ◌∷◌, length, refl, ap, ⊎_elim, one-add, add-one, arith, length-drop}
+use Rattle.std.proofs.Common.{◌≡◌, ℕ, suc, ◌≤◌, ◌+◌, ◌<◌, true, false, List, [], ◌∷◌, length, refl, ap, ⊎_elim, one-add, add-one, arith, length-drop}
 use Rattle.std.specs.List.{before_first, after_first, position_or_len}
-use Rattle.std.proofs.lemmas.Bool.{cases_Bool}
+use Rattle.std.proofs.lemmas.Bool.{cases_Bool, cond_both}
 use Rattle.tn_text.specs.Lines.{is_feed, onto_line, lines_of, StartsLine}
 
 -- the first line, and the lines of what stands behind it
@@ -29,3 +29,14 @@ starts_line text line rest some e f = record {
   lines = rw (e, f) (lines_of-parted text some);
   shorter = omega (arith, ap length f, length-drop (position_or_len is_feed text + 1) text);
 }
+
+onto_line-count : (b : ℕ) (ls : List (List ℕ)) (n : ℕ) → length ls ≤ n → length (onto_line b ls) ≤ suc n
+onto_line-count b [] n h = omega arith
+onto_line-count b (l ∷ ls) n h = omega arith
+
+pub line_count : (text : List ℕ) → length (lines_of text) ≤ length text
+line_count [] = omega arith
+line_count (b ∷ bs) =
+    let more = line_count bs in
+    cond_both (is_feed b) ([] ∷ lines_of bs) (onto_line b (lines_of bs)) (λ (ls : List (List ℕ)). length ls ≤ suc (length bs))
+    (λ e. omega arith) (λ e. onto_line-count b (lines_of bs) (length bs) more)

@@ -2,7 +2,7 @@
 
 ghost use Rattle.std.specs.Prelude.{◌≡◌, ◌+◌, ◌==◌, ◌≤◌, [], length, MatchOption};
 ghost use Rattle.std.specs.List.{after_first, before_first, position_or_len, list_any};
-ghost use Rattle.tn_text.specs.Lines.{StartsLine};
+ghost use Rattle.tn_text.specs.Lines.{StartsLine, lines_of};
 
 /// The place of the first such byte, or the number of bytes where there is none.
 pub(crate) fn place_of(bytes: &[u8], byte: u8) -> usize
@@ -43,3 +43,8 @@ pub fn first_line(text: &[u8]) -> Option<(&[u8], &[u8])>
     }
     Some((text, &text[end..]))
 }
+
+/// A text has no more lines than bytes. A caller that knows the bytes learns it here, at no cost.
+pub fn law_line_count(_text: &[u8])
+    ensures { length (lines_of _text.now) ≤ length _text.now }
+{}
