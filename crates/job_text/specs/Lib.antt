@@ -4,3 +4,4 @@ pub mod Keyword
 pub mod Text
 pub mod Gives
 pub mod Printed
+pub mod WellFormed

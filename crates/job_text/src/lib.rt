@@ -9,6 +9,7 @@ mod draft;
 pub mod items;
 pub mod job;
 mod keyword;
+pub mod laws;
 pub mod print;
 pub mod read;
 mod seen;
