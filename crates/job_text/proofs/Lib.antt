@@ -1,0 +1,10 @@
+pub mod Joined
+pub mod Clean
+pub mod Words
+pub mod Leads
+pub mod Heads
+pub mod Many
+pub mod Entries
+pub mod Inside
+pub mod Whole
+pub mod ReadBack

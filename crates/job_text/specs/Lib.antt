@@ -1,0 +1,7 @@
+pub mod Seen
+pub mod Arguments
+pub mod Keyword
+pub mod Text
+pub mod Gives
+pub mod Printed
+pub mod WellFormed

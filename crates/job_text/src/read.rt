@@ -1,0 +1,38 @@
+//! Reading a job.
+
+ghost use Rattle.std.specs.Prelude.{◌≡◌, ◌-◌, ◌<◌, ◌^◌, length};
+ghost use Rattle.tn_text.specs.Lines.{lines_of};
+ghost use Rattle.job_text.specs.Text.{job_of};
+ghost use Rattle.job_text.specs.Gives.{Gives, stop_at};
+
+use crate::draft::{Draft, LineStop};
+use crate::job::{Job, JobFault, JobStop};
+use std::alloc::Global;
+use tn_text::lines::first_line;
+
+fn stopped(line: u32, stop: LineStop) -> JobStop
+    ensures { result ≡ stop_at line stop }
+{
+    match stop {
+        LineStop::Kind(kind) => JobStop::Fault(JobFault { line, kind }),
+        LineStop::Memory => JobStop::Memory,
+    }
+}
+
+/// The job that a text says, of either version.
+pub fn read_job(alloc: Global, text: &[u8]) -> Result<Job, JobStop>
+    requires { length (lines_of text.now) < 2 ^ 32 - 1 }
+    ensures { Gives result (job_of (lines_of text.now)) }
+{
+    let mut draft = Draft::new(alloc);
+    let mut rest = text;
+    let mut line = 0;
+    while let Some((front, after)) = first_line(rest) {
+        line += 1;
+        if let Err(stop) = draft.take_line(alloc, line, front) {
+            return Err(stopped(line, stop));
+        }
+        rest = after;
+    }
+    draft.finish(line)
+}

@@ -1,0 +1,6 @@
+pub mod Lines
+pub mod Content
+pub mod Words
+pub mod Numbers
+pub mod Names
+pub mod Hex

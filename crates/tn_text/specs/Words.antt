@@ -1,0 +1,19 @@
+-- The words of a line.
+use Rattle.std.specs.Prelude.{◌≡◌, ℕ, ◌<◌, Bool, true, false, List, [], ◌∷◌, length, drop, filter}
+use Rattle.std.specs.List.{before_first, slice_split}
+use Rattle.tn_text.specs.Content.{is_space, without_front_spaces}
+
+abbrev pub is_some_text : List ℕ → Bool
+is_some_text [] = false
+is_some_text (b ∷ bs) = true
+
+-- what stands between spaces
+abbrev pub words_of : List ℕ → List (List ℕ)
+words_of line = filter is_some_text (slice_split is_space line)
+
+-- the word goes up to the first space behind the spaces at the front, and the rest begins there
+pub record StartsWord (line word rest : List ℕ) : Type 0 where
+  pub word_is : word ≡ before_first is_space (without_front_spaces line)
+  pub rest_is : rest ≡ drop (length word) (without_front_spaces line)
+  pub words : words_of line ≡ word ∷ words_of rest
+  pub shorter : length rest < length line

@@ -1,0 +1,15 @@
+//! The rules that all texts share: lines, comments, spaces, words, numbers, names and digits.
+//!
+//! Its definitions are on lists of bytes: `lines_of`, `content_of`, `words_of`, `number_of`, `hex_bytes_of`.
+//! Read `first_line` first, then `content` and `first_word`.
+#![tactic(auto)]
+
+pub mod content;
+pub mod hex;
+pub mod lines;
+pub mod names;
+pub mod numbers;
+pub mod print;
+#[cfg(test)]
+mod tests;
+pub mod words;
