@@ -8,3 +8,5 @@ pub mod Entries
 pub mod Inside
 pub mod Whole
 pub mod ReadBack
+pub mod Bytes
+pub mod Contents
