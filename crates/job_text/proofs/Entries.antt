@@ -56,7 +56,7 @@ one_fill d n f s ready h e =
     let address = decimal_value f.address h.address in
     let taken : entry_line d (n + 1) (codes "fill" ++ flat_map spaced ws) (codes "fill" ∷ ws) ≡ Ok after = rw (read, few, thread, address) refl in
     let leads = leads_entry d n (codes "fill") ws after ready.out (record { bytes = refl; some = refl })
-        (decimal_word f.thread h.thread, (decimal_word f.address h.address, (hex_word f.bytes bytes h.some, tt))) taken in
+    (decimal_word f.thread h.thread, (decimal_word f.address h.address, (hex_word f.bytes bytes h.some, tt))) taken in
     let text : codes "fill" ++ flat_map spaced ws ++ feed ≡ fill_text f = ap (λ (xs : List ℕ). xs ++ feed) (sym (spaced_three (codes "fill") (decimal f.thread) (decimal f.address) (hex_text f.bytes))) in
     record { item = item; behind = n + 1; same = refl; leads = subst (λ (t : List ℕ). Leads d n t after (n + 1)) text leads }
 
@@ -87,7 +87,7 @@ item_leads d n (Send thread bytes) ready h =
     let number = decimal_value thread h.0 in
     let taken : entry_line d (n + 1) (codes "host" ++ flat_map spaced ws) (codes "host" ∷ ws) ≡ Ok after = rw (read, number) refl in
     let leads = leads_entry d n (codes "host") ws after ready.out (record { bytes = refl; some = refl })
-        (record { bytes = refl; some = refl }, (decimal_word thread h.0, (hex_word bytes fit h.2, tt))) taken in
+    (record { bytes = refl; some = refl }, (decimal_word thread h.0, (hex_word bytes fit h.2, tt))) taken in
     let text : codes "host" ++ flat_map spaced ws ++ feed ≡ item_text (Send thread bytes) = ap (λ (xs : List ℕ). xs ++ feed) (sym (spaced_three (codes "host") (codes "send") (decimal thread) (hex_text bytes))) in
     subst (λ (t : List ℕ). Leads d n t after (n + 1)) text leads
 

@@ -41,7 +41,7 @@ header_by : (v : ℕ) (w : List ℕ) → decimal v ≡ w → IsWord w → header
 header_by v w e h taken =
     let l = codes "tinsel" ++ flat_map spaced (w ∷ []) in
     let leads = leads_line start 0 l (headed_draft v) (line_of_words (codes "tinsel") (w ∷ []) tinsel_word (h, tt))
-        (ap (header_line start 1) (words_of-line (codes "tinsel") (w ∷ []) tinsel_word (h, tt)) ∙ taken) in
+    (ap (header_line start 1) (words_of-line (codes "tinsel") (w ∷ []) tinsel_word (h, tt)) ∙ taken) in
     let text : l ++ feed ≡ header_text v = rw e (ap (λ (xs : List ℕ). xs ++ feed) (sym (spaced_one (codes "tinsel") w))) in
     subst (λ (t : List ℕ). Leads start 0 t (headed_draft v) 1) text leads
 
@@ -79,9 +79,9 @@ shape_leads v n h =
     let numbers = numbers_of-decimals (shape_list n) h in
     let taken : shape_line (headed_draft v) 2 (codes "shape" ∷ ws) ≡ Ok (shaped_draft v n) = rw numbers refl in
     let leads = leads_line (headed_draft v) 1 l (shaped_draft v n) (line_of_words (codes "shape") ws shape_word hs)
-        (ap (shape_line (headed_draft v) 2) (words_of-line (codes "shape") ws shape_word hs) ∙ taken) in
+    (ap (shape_line (headed_draft v) 2) (words_of-line (codes "shape") ws shape_word hs) ∙ taken) in
     let text : l ++ feed ≡ shape_text n = ap (λ (xs : List ℕ). xs ++ feed)
-        (sym (spaced_six (codes "shape") (decimal n.boards_x) (decimal n.boards_y) (decimal n.tiles_x) (decimal n.tiles_y) (decimal n.cores) (decimal n.threads))) in
+    (sym (spaced_six (codes "shape") (decimal n.boards_x) (decimal n.boards_y) (decimal n.tiles_x) (decimal n.tiles_y) (decimal n.cores) (decimal n.threads))) in
     subst (λ (t : List ℕ). Leads (headed_draft v) 1 t (shaped_draft v n) 2) text leads
 
 abbrev pub with_set : Draft → ℕ → Setting → ℕ → Draft
@@ -124,4 +124,4 @@ settings_lead v n h =
     let two = leads_then a 2 (setting_text (codes "slots") n.slots ++ setting_text (codes "link") n.link) c 4 (setting_text (codes "mem") n.mem) d 5 one mem in
     let three = leads_then a 2 (setting_text (codes "slots") n.slots ++ setting_text (codes "link") n.link ++ setting_text (codes "mem") n.mem) d 5 (setting_text (codes "fuel") n.fuel) e 6 two fuel in
     leads_then a 2 (setting_text (codes "slots") n.slots ++ setting_text (codes "link") n.link ++ setting_text (codes "mem") n.mem ++ setting_text (codes "fuel") n.fuel) e 6
-        (setting_text (codes "turn") n.turn) f 7 three turn
+    (setting_text (codes "turn") n.turn) f 7 three turn

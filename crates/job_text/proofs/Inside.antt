@@ -34,7 +34,7 @@ words_of-word w h = ap words_of (sym (append-nil w)) ∙ words_of-line w [] h tt
 not_end : (a b c d : ℕ) (xs : List ℕ) → bytes_eq (a ∷ b ∷ c ∷ d ∷ xs) (codes "end") ≡ false
 not_end a b c d xs =
     and_right (eqb a 101) (eqb b 110 && (eqb c 100 && false))
-        (and_right (eqb b 110) (eqb c 100 && false) (and_right (eqb c 100) false refl))
+    (and_right (eqb b 110) (eqb c 100 && false) (and_right (eqb c 100) false refl))
 
 four : (a b c d : ℕ) → a < 256 → b < 256 → c < 256 → d < 256 → AreBytes (a ∷ b ∷ c ∷ d ∷ [])
 four a b c d h i j k zero = h
@@ -46,8 +46,8 @@ four a b c d h i j k (suc (suc (suc (suc n)))) = omega arith
 word_fits : (w : ℕ) → w < 2 ^ 32 → IsWord (hex_word_text w)
 word_fits w h =
     hex_word (w / 2 ^ 24 ∷ w / 2 ^ 16 % 256 ∷ w / 2 ^ 8 % 256 ∷ w % 256 ∷ [])
-        (fit_bytes (w / 2 ^ 24 ∷ w / 2 ^ 16 % 256 ∷ w / 2 ^ 8 % 256 ∷ w % 256 ∷ []) (four (w / 2 ^ 24) (w / 2 ^ 16 % 256) (w / 2 ^ 8 % 256) (w % 256) (omega arith) (omega arith) (omega arith) (omega arith)))
-        (omega arith)
+    (fit_bytes (w / 2 ^ 24 ∷ w / 2 ^ 16 % 256 ∷ w / 2 ^ 8 % 256 ∷ w % 256 ∷ []) (four (w / 2 ^ 24) (w / 2 ^ 16 % 256) (w / 2 ^ 8 % 256) (w % 256) (omega arith) (omega arith) (omega arith) (omega arith)))
+    (omega arith)
 
 abbrev pub with_words : Draft → List ℕ → Draft
 with_words d ws = record d { words = ws }
@@ -61,7 +61,7 @@ one_word_leads d n line owner w place h few =
     let here : content_line d.place d (n + 1) (hex_word_text w) ≡ word_line d line owner (words_of (hex_word_text w)) = rw place refl in
     let taken : word_by d line owner (Some (hex_word_text w)) ≡ Ok (with_words d (d.words ++ w ∷ [])) = rw (not_end _ _ _ _ _, back, room) refl in
     leads_line d n (hex_word_text w) (with_words d (d.words ++ w ∷ [])) (word_is_line (hex_word_text w) word)
-        (here ∙ ap (word_line d line owner) (words_of-word (hex_word_text w) word) ∙ taken)
+    (here ∙ ap (word_line d line owner) (words_of-word (hex_word_text w) word) ∙ taken)
 
 pub words_lead : (ws : List ℕ) (d : Draft) (n line : ℕ) (owner : Owner) → d.place ≡ InCode line owner → AllByRecursion (λ w. w < 2 ^ 32) ws → length d.words + length ws ≤ 16384
     → (m : ℕ) × Leads d n (flat_map word_text ws) (with_words d (d.words ++ ws)) m
@@ -70,9 +70,11 @@ words_lead [] d n line owner place h few =
 words_lead (w ∷ ws) d n line owner place h few =
     let e = with_words d (d.words ++ w ∷ []) in
     let first = one_word_leads d n line owner w place h.0 (omega arith) in
-    let rest = words_lead ws e (n + 1) line owner place h.1 (omega (arith, length-append d.words (w ∷ []))) in
-    (rest.0, leads_then d n (word_text w) e (n + 1) (flat_map word_text ws) (with_words d (d.words ++ w ∷ ws)) rest.0 first
-        (subst (λ (xs : List ℕ). Leads e (n + 1) (flat_map word_text ws) (with_words d xs) rest.0) (append_assoc d.words (w ∷ []) ws) rest.1))
+    let rest = words_lead ws e (n + 1) line owner place h.1 (omega (arith, length-append d.words (w ∷ []))) in (
+      rest.0,
+      leads_then d n (word_text w) e (n + 1) (flat_map word_text ws) (with_words d (d.words ++ w ∷ ws)) rest.0 first
+          (subst (λ (xs : List ℕ). Leads e (n + 1) (flat_map word_text ws) (with_words d xs) rest.0) (append_assoc d.words (w ∷ []) ws) rest.1),
+    )
 
 end_word : IsWord (codes "end")
 end_word = record { bytes = refl; some = refl }
@@ -150,7 +152,7 @@ beats_lead (beat ∷ beats) d n line x y place h few =
       behind = rest.behind;
       same = ap (λ (xs : List BeatLine). beat_unlined beat ∷ xs) rest.same;
       leads = leads_then d n (beat_text beat) e (n + 1) (flat_map beat_text beats) (with_beats d (d.beats ++ item ∷ rest.read)) rest.behind first
-        (subst (λ (xs : List BeatLine). Leads e (n + 1) (flat_map beat_text beats) (with_beats d xs) rest.behind) (append_assoc d.beats (item ∷ []) rest.read) rest.leads);
+          (subst (λ (xs : List BeatLine). Leads e (n + 1) (flat_map beat_text beats) (with_beats d xs) rest.behind) (append_assoc d.beats (item ∷ []) rest.read) rest.leads);
     }
 
 -- lines that are kept as they stand
@@ -183,6 +185,8 @@ text_leads (l ∷ ls) d n place h =
     let first = leads_content d n l e (λ rest. lines_of-unbroken l rest h.0.one_line) h.0.plain h.0.content (kept_line d.place d (n + 1) l place h.0.goes_on) in
     let rest = text_leads ls e (n + 1) place h.1 in
     let same : d.text ++ l ++ feed ++ flat_map fed ls ≡ d.text ++ (l ++ feed ++ flat_map fed ls) =
-        ap (λ (xs : List ℕ). xs ++ flat_map fed ls) (append_assoc d.text l feed) ∙ append_assoc d.text (l ++ feed) (flat_map fed ls) in
-    (rest.0, leads_then d n (l ++ feed) e (n + 1) (flat_map fed ls) (with_text d (d.text ++ (l ++ feed ++ flat_map fed ls))) rest.0 first
-        (subst (λ (xs : List ℕ). Leads e (n + 1) (flat_map fed ls) (with_text d xs) rest.0) same rest.1))
+    ap (λ (xs : List ℕ). xs ++ flat_map fed ls) (append_assoc d.text l feed) ∙ append_assoc d.text (l ++ feed) (flat_map fed ls) in (
+      rest.0,
+      leads_then d n (l ++ feed) e (n + 1) (flat_map fed ls) (with_text d (d.text ++ (l ++ feed ++ flat_map fed ls))) rest.0 first
+          (subst (λ (xs : List ℕ). Leads e (n + 1) (flat_map fed ls) (with_text d xs) rest.0) same rest.1),
+    )

@@ -31,10 +31,10 @@ pub leads_content : (d : Draft) (n : ℕ) (l : List ℕ) (e : Draft) → ((rest 
     → is_plain l ≡ true → content_of l ≡ l → content_line d.place d (n + 1) l ≡ Ok e → Leads d n (l ++ feed) e (n + 1)
 leads_content d n l e line plain content taken = record {
   reads = λ rest.
-    let stepped : step d (n + 1) l ≡ Ok e = rw (plain, content) taken in
-    ap (λ (xs : List ℕ). job_after d n (lines_of xs)) (append_assoc l feed rest)
-    ∙ ap (job_after d n) (line rest)
-    ∙ ap (λ (r : Result Draft JobKind). read_on (n + 1) r (λ f. job_after f (n + 1) (lines_of rest))) stepped;
+      let stepped : step d (n + 1) l ≡ Ok e = rw (plain, content) taken in
+      ap (λ (xs : List ℕ). job_after d n (lines_of xs)) (append_assoc l feed rest)
+      ∙ ap (job_after d n) (line rest)
+      ∙ ap (λ (r : Result Draft JobKind). read_on (n + 1) r (λ f. job_after f (n + 1) (lines_of rest))) stepped;
 }
 
 pub leads_line : (d : Draft) (n : ℕ) (l : List ℕ) (e : Draft) → IsLine l → content_line d.place d (n + 1) l ≡ Ok e → Leads d n (l ++ feed) e (n + 1)
@@ -60,7 +60,7 @@ pub leads_entry : (d : Draft) (n : ℕ) (w : List ℕ) (ws : List (List ℕ)) (e
 leads_entry d n w ws e out h hs taken =
     let l = w ++ flat_map spaced ws in
     leads_line d n l e (line_of_words w ws h hs)
-        (entry_content d (n + 1) l out ∙ ap (entry_line d (n + 1) l) (words_of-line w ws h hs) ∙ taken)
+    (entry_content d (n + 1) l out ∙ ap (entry_line d (n + 1) l) (words_of-line w ws h hs) ∙ taken)
 
 pub spaced_one : (w a : List ℕ) → w ++ spaced a ≡ w ++ flat_map spaced (a ∷ [])
 spaced_one w a = ap (λ (xs : List ℕ). w ++ 32 ∷ xs) (sym (append-nil a))

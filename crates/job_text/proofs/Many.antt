@@ -59,9 +59,9 @@ many text unline Good allowed put items state kept one (x ∷ xs) d n s ready go
     let named' : named_by allowed (state e) xs ≡ Some s = rw (kept.state_of d AtSections t (items d ++ first.item ∷ [])) split.2 in
     let rest = many text unline Good allowed put items state kept one xs e first.behind s (kept.ready d AtSections t (items d ++ first.item ∷ []) ready (inr refl)) good.1 named' in
     let f : put e rest.place s (items e ++ rest.read) ≡ put d rest.place s (items d ++ first.item ∷ rest.read) =
-        kept.again d AtSections rest.place t s (items d ++ first.item ∷ []) (items e ++ rest.read)
-        ∙ ap (put d rest.place s)
-            (ap (λ (ys : List _). ys ++ rest.read) (kept.items_of d AtSections t (items d ++ first.item ∷ [])) ∙ append_assoc (items d) (first.item ∷ []) rest.read) in
+    kept.again d AtSections rest.place t s (items d ++ first.item ∷ []) (items e ++ rest.read)
+    ∙ ap (put d rest.place s)
+    (ap (λ (ys : List _). ys ++ rest.read) (kept.items_of d AtSections t (items d ++ first.item ∷ [])) ∙ append_assoc (items d) (first.item ∷ []) rest.read) in
     record {
       place = rest.place;
       out = rest.out;
@@ -69,5 +69,5 @@ many text unline Good allowed put items state kept one (x ∷ xs) d n s ready go
       behind = rest.behind;
       same = rw (first.same, rest.same) refl;
       leads = subst (λ (y : Draft). Leads d n (flat_map text (x ∷ xs)) y rest.behind) f
-        (leads_then d n (text x) e first.behind (flat_map text xs) (put e rest.place s (items e ++ rest.read)) rest.behind first.leads rest.leads);
+          (leads_then d n (text x) e first.behind (flat_map text xs) (put e rest.place s (items e ++ rest.read)) rest.behind first.leads rest.leads);
     }

@@ -51,7 +51,7 @@ graph_head_leads d n s head rest words ns ready none g =
     let numbers = g.numbers in
     let taken : entry_line d (n + 1) head (codes "graph" ∷ words) ≡ Ok after = rw (numbers, none) refl in
     leads_content d n head after (λ more. lines_of-unbroken head more g.line.one_line) g.line.plain g.line.content
-        (entry_content d (n + 1) head ready.out ∙ ap (entry_line d (n + 1) head) g.words_are ∙ taken)
+    (entry_content d (n + 1) head ready.out ∙ ap (entry_line d (n + 1) head) g.words_are ∙ taken)
 
 graph_some : (d : Draft) (n : ℕ) (s : TextSection) (head rest : List ℕ) (words : List (List ℕ)) (ns : List ℕ) → Ready d → d.job.graph ≡ None → IsGraphText s head rest words ns
     → GraphRead d n (Some s)
@@ -82,7 +82,7 @@ graph_leads None d n ready none h = record {
   behind = n;
   same = refl;
   leads = subst (λ (t : List ℕ). Leads d n [] (record d { text = t; job = record d.job { graph = None } }) n) ready.text
-    (subst (λ (g : Option TextSection). Leads d n [] (record d { job = record d.job { graph = g } }) n) none (leads_none d n));
+      (subst (λ (g : Option TextSection). Leads d n [] (record d { job = record d.job { graph = g } }) n) none (leads_none d n));
 }
 graph_leads (Some s) d n ready none h = graph_some d n s h.0 h.1 h.2 h.3 ready none h.4
 
@@ -116,7 +116,7 @@ then_rest text unline put items d n xs s c more job none r same = record {
   out = r.out;
   same = r.same ∙ same c.read xs c.same;
   leads = leads_then d n (flat_map text xs) (put d c.place s c.read) c.behind more r.after r.behind
-    (subst (λ (ys : List _). Leads d n (flat_map text xs) (put d c.place s (ys ++ c.read)) c.behind) none c.leads) r.leads;
+      (subst (λ (ys : List _). Leads d n (flat_map text xs) (put d c.place s (ys ++ c.read)) c.behind) none c.leads) r.leads;
 }
 
 rest_graph : (d : Draft) (n : ℕ) (g : Option TextSection) → GraphRead d n g → Rest d n (graph_text g) (record d.job { graph = g })
@@ -134,14 +134,14 @@ from_script : (d : Draft) (n : ℕ) (xs : List ScriptLine) (g : Option TextSecti
 from_script d n xs g ready none gnone hg c =
     let e = put_script d c.place tt c.read in
     then_rest script_text script_unlined put_script (λ x. x.job.script) d n xs tt c (graph_text g) (λ ys. record d.job { script = ys; graph = g }) none
-        (rest_graph e c.behind g (graph_leads g e c.behind (script_kept.ready d c.place tt c.read ready c.out) gnone hg))
-        (λ ys zs same. ap (λ (x : List ScriptLine). record (unlined d.job) { script = x; graph = option_map text_unlined g }) same)
+    (rest_graph e c.behind g (graph_leads g e c.behind (script_kept.ready d c.place tt c.read ready c.out) gnone hg))
+    (λ ys zs same. ap (λ (x : List ScriptLine). record (unlined d.job) { script = x; graph = option_map text_unlined g }) same)
 
 rest_script : (d : Draft) (n : ℕ) (xs : List ScriptLine) (g : Option TextSection) → Ready d → d.job.script ≡ [] → d.job.graph ≡ None → AllByRecursion IsScript xs → IsGraph g
     → Rest d n (flat_map script_text xs ++ graph_text g) (record d.job { script = xs; graph = g })
 rest_script d n xs g ready none gnone good hg =
     from_script d n xs g ready none gnone hg
-        (many script_text script_unlined IsScript nothing_named put_script (λ x. x.job.script) (λ x. tt) script_kept one_script xs d n tt ready good (all_allowed xs tt))
+    (many script_text script_unlined IsScript nothing_named put_script (λ x. x.job.script) (λ x. tt) script_kept one_script xs d n tt ready good (all_allowed xs tt))
 
 -- what stands behind the tables, and so on
 pub record Later (d : Draft) : Type 0 where
@@ -154,8 +154,8 @@ from_tables : (d : Draft) (n : ℕ) (ts : List TableSection) (s : List ℕ) (xs 
 from_tables d n ts s xs g ready none later good hg c =
     let e = put_tables d c.place s c.read in
     then_rest table_text table_unlined put_tables (λ x. x.job.tables) d n ts s c (flat_map script_text xs ++ graph_text g) (λ ys. record d.job { tables = ys; script = xs; graph = g }) none
-        (rest_script e c.behind xs g (tables_kept.ready d c.place s c.read ready c.out) later.script_none later.graph_none good hg)
-        (λ ys zs same. ap (λ (x : List TableSection). record (unlined d.job) { tables = x; script = map script_unlined xs; graph = option_map text_unlined g }) same)
+    (rest_script e c.behind xs g (tables_kept.ready d c.place s c.read ready c.out) later.script_none later.graph_none good hg)
+    (λ ys zs same. ap (λ (x : List TableSection). record (unlined d.job) { tables = x; script = map script_unlined xs; graph = option_map text_unlined g }) same)
 
 from_fills : (d : Draft) (n : ℕ) (fs : List FillLine) (ts : List TableSection) (s : List ℕ) (xs : List ScriptLine) (g : Option TextSection) → Ready d → d.job.fills ≡ [] → d.job.tables ≡ [] → Later d
     → AllByRecursion IsTable ts → named_by table_allowed d.boards ts ≡ Some s → AllByRecursion IsScript xs → IsGraph g
@@ -166,10 +166,10 @@ from_fills d n fs ts s xs g ready none tnone later tables named good hg c =
     let ready' = fills_kept.ready d c.place tt c.read ready c.out in
     let later' : Later e = record { script_none = later.script_none; graph_none = later.graph_none } in
     then_rest fill_text fill_unlined put_fills (λ x. x.job.fills) d n fs tt c (flat_map table_text ts ++ (flat_map script_text xs ++ graph_text g))
-        (λ ys. record d.job { fills = ys; tables = ts; script = xs; graph = g }) none
-        (from_tables e c.behind ts s xs g ready' tnone later' good hg
-            (many table_text table_unlined IsTable table_allowed put_tables (λ x. x.job.tables) (λ x. x.boards) tables_kept one_table ts e c.behind s ready' tables named))
-        (λ ys zs same. ap (λ (x : List FillLine). record (unlined d.job) { fills = x; tables = map table_unlined ts; script = map script_unlined xs; graph = option_map text_unlined g }) same)
+    (λ ys. record d.job { fills = ys; tables = ts; script = xs; graph = g }) none
+    (from_tables e c.behind ts s xs g ready' tnone later' good hg
+    (many table_text table_unlined IsTable table_allowed put_tables (λ x. x.job.tables) (λ x. x.boards) tables_kept one_table ts e c.behind s ready' tables named))
+    (λ ys zs same. ap (λ (x : List FillLine). record (unlined d.job) { fills = x; tables = map table_unlined ts; script = map script_unlined xs; graph = option_map text_unlined g }) same)
 
 from_asms : (d : Draft) (n : ℕ) (texts : List TextSection) (o : Bool × List ℕ) (fs : List FillLine) (ts : List TableSection) (s : List ℕ) (xs : List ScriptLine) (g : Option TextSection)
     → Ready d → d.job.asms ≡ [] → d.job.fills ≡ [] → d.job.tables ≡ [] → Later d
@@ -181,26 +181,26 @@ from_asms d n texts o fs ts s xs g ready none fnone tnone later fills tables nam
     let ready' = asms_kept.ready d c.place o c.read ready c.out in
     let later' : Later e = record { script_none = later.script_none; graph_none = later.graph_none } in
     then_rest asm_text text_unlined put_asms (λ x. x.job.asms) d n texts o c (flat_map fill_text fs ++ (flat_map table_text ts ++ (flat_map script_text xs ++ graph_text g)))
-        (λ ys. record d.job { asms = ys; fills = fs; tables = ts; script = xs; graph = g }) none
-        (from_fills e c.behind fs ts s xs g ready' fnone tnone later' tables named good hg
-            (many fill_text fill_unlined IsFill nothing_named put_fills (λ x. x.job.fills) (λ x. tt) fills_kept one_fill fs e c.behind tt ready' fills (all_allowed fs tt)))
-        (λ ys zs same. ap (λ (x : List TextSection). record (unlined d.job) { asms = x; fills = map fill_unlined fs; tables = map table_unlined ts; script = map script_unlined xs; graph = option_map text_unlined g }) same)
+    (λ ys. record d.job { asms = ys; fills = fs; tables = ts; script = xs; graph = g }) none
+    (from_fills e c.behind fs ts s xs g ready' fnone tnone later' tables named good hg
+    (many fill_text fill_unlined IsFill nothing_named put_fills (λ x. x.job.fills) (λ x. tt) fills_kept one_fill fs e c.behind tt ready' fills (all_allowed fs tt)))
+    (λ ys zs same. ap (λ (x : List TextSection). record (unlined d.job) { asms = x; fills = map fill_unlined fs; tables = map table_unlined ts; script = map script_unlined xs; graph = option_map text_unlined g }) same)
 
 from_codes : (d : Draft) (n : ℕ) (cs : List CodeSection) (q : Bool × List ℕ) (texts : List TextSection) (o : Bool × List ℕ) (fs : List FillLine) (ts : List TableSection) (s : List ℕ) (xs : List ScriptLine) (g : Option TextSection)
     → Ready d → d.job.codes ≡ [] → d.job.asms ≡ [] → d.job.fills ≡ [] → d.job.tables ≡ [] → Later d
     → AllByRecursion IsAsm texts → named_by asm_allowed q texts ≡ Some o → AllByRecursion IsFill fs → AllByRecursion IsTable ts → named_by table_allowed d.boards ts ≡ Some s → AllByRecursion IsScript xs → IsGraph g
     → Read code_text code_unlined put_codes (λ x. x.job.codes) d n cs q
     → Rest d n (flat_map code_text cs ++ (flat_map asm_text texts ++ (flat_map fill_text fs ++ (flat_map table_text ts ++ (flat_map script_text xs ++ graph_text g)))))
-        (record d.job { codes = cs; asms = texts; fills = fs; tables = ts; script = xs; graph = g })
+    (record d.job { codes = cs; asms = texts; fills = fs; tables = ts; script = xs; graph = g })
 from_codes d n cs q texts o fs ts s xs g ready none anone fnone tnone later asms owners fills tables named good hg c =
     let e = put_codes d c.place q c.read in
     let ready' = codes_kept.ready d c.place q c.read ready c.out in
     let later' : Later e = record { script_none = later.script_none; graph_none = later.graph_none } in
     then_rest code_text code_unlined put_codes (λ x. x.job.codes) d n cs q c (flat_map asm_text texts ++ (flat_map fill_text fs ++ (flat_map table_text ts ++ (flat_map script_text xs ++ graph_text g))))
-        (λ ys. record d.job { codes = ys; asms = texts; fills = fs; tables = ts; script = xs; graph = g }) none
-        (from_asms e c.behind texts o fs ts s xs g ready' anone fnone tnone later' fills tables named good hg
-            (many asm_text text_unlined IsAsm asm_allowed put_asms (λ x. x.job.asms) owners_of asms_kept one_asm texts e c.behind o ready' asms owners))
-        (λ ys zs same. ap (λ (x : List CodeSection). record (unlined d.job) { codes = x; asms = map text_unlined texts; fills = map fill_unlined fs; tables = map table_unlined ts; script = map script_unlined xs; graph = option_map text_unlined g }) same)
+    (λ ys. record d.job { codes = ys; asms = texts; fills = fs; tables = ts; script = xs; graph = g }) none
+    (from_asms e c.behind texts o fs ts s xs g ready' anone fnone tnone later' fills tables named good hg
+    (many asm_text text_unlined IsAsm asm_allowed put_asms (λ x. x.job.asms) owners_of asms_kept one_asm texts e c.behind o ready' asms owners))
+    (λ ys zs same. ap (λ (x : List CodeSection). record (unlined d.job) { codes = x; asms = map text_unlined texts; fills = map fill_unlined fs; tables = map table_unlined ts; script = map script_unlined xs; graph = option_map text_unlined g }) same)
 
 assoc_six : (c a f t s g : List ℕ) → c ++ a ++ f ++ t ++ s ++ g ≡ c ++ (a ++ (f ++ (t ++ (s ++ g))))
 assoc_six c a f t s g =
@@ -227,10 +227,10 @@ rest_sections d n job fresh h =
     let begun : named_by code_allowed (owners_of d) job.codes ≡ Some owners.0 = rw (fresh.all_named, fresh.tiles) owners.1 in
     let open_boards : named_by table_allowed d.boards job.tables ≡ Some boards.0 = rw fresh.boards boards.1 in
     subst (λ (t : List ℕ). Rest d n t (record d.job { codes = job.codes; asms = job.asms; fills = job.fills; tables = job.tables; script = job.script; graph = job.graph }))
-        (sym (assoc_six (flat_map code_text job.codes) (flat_map asm_text job.asms) (flat_map fill_text job.fills) (flat_map table_text job.tables) (flat_map script_text job.script) (graph_text job.graph)))
-        (from_codes d n job.codes owners.0 job.asms named.0 job.fills job.tables boards.0 job.script job.graph fresh.ready fresh.codes_none fresh.asms_none fresh.fills_none fresh.tables_none fresh.later
-            h.asms_are named.1 h.fills_are h.tables_are open_boards h.script_is h.graph_is
-            (many code_text code_unlined IsCode code_allowed put_codes (λ x. x.job.codes) owners_of codes_kept one_code job.codes d n owners.0 fresh.ready h.codes_are begun))
+    (sym (assoc_six (flat_map code_text job.codes) (flat_map asm_text job.asms) (flat_map fill_text job.fills) (flat_map table_text job.tables) (flat_map script_text job.script) (graph_text job.graph)))
+    (from_codes d n job.codes owners.0 job.asms named.0 job.fills job.tables boards.0 job.script job.graph fresh.ready fresh.codes_none fresh.asms_none fresh.fills_none fresh.tables_none fresh.later
+    h.asms_are named.1 h.fills_are h.tables_are open_boards h.script_is h.graph_is
+    (many code_text code_unlined IsCode code_allowed put_codes (λ x. x.job.codes) owners_of codes_kept one_code job.codes d n owners.0 fresh.ready h.codes_are begun))
 
 settled_fresh : (v : ℕ) (n : ShapeNumbers) → Fresh (settled v n)
 settled_fresh v n = record {
@@ -277,5 +277,5 @@ reads_back job h =
     let r = rest_sections d 7 job (settled_fresh job.version job.numbers) h in
     let leads = head_leads job.version job.numbers h.version h.numbers in
     let read = read_whole (header_text job.version ++ shape_text job.numbers ++ settings_text job.numbers) (sections_text job) d
-        (record d.job { codes = job.codes; asms = job.asms; fills = job.fills; tables = job.tables; script = job.script; graph = job.graph }) leads r in
+    (record d.job { codes = job.codes; asms = job.asms; fills = job.fills; tables = job.tables; script = job.script; graph = job.graph }) leads r in
     (r.after.job, read, r.same ∙ settled_job job h.same_version)

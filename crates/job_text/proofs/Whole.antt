@@ -43,7 +43,7 @@ not_a b h = grind (arith, nat_tests)
 
 digits_not_all : (text : List ℕ) → AllDigits 10 text → bytes_eq text (codes "all") ≡ false
 digits_not_all [] h = refl
-digits_not_all (b ∷ bs) h = 
+digits_not_all (b ∷ bs) h =
     let e : eqb b 97 ≡ false = not_a b h.0 in rw e refl
 
 pub owner_word : (o : Owner) → IsOwner o → IsWord (owner_text o)
@@ -70,11 +70,11 @@ pub owner_named_is : (o : Owner) (d : Draft) (s : Bool × List ℕ) → owner_al
 owner_named_is All d s h =
     ⊎_elim (λ e. let k : None ≡ Some s = rw e at h in cc)
     (λ e. let k : Some (true, d.tiles) ≡ Some s = rw e at h in let f = some_is (true, d.tiles) s k in
-        rw e (ap (λ (t : Bool × List ℕ). Ok (named d t)) f)) (cases_Bool d.all_named)
+    rw e (ap (λ (t : Bool × List ℕ). Ok (named d t)) f)) (cases_Bool d.all_named)
 owner_named_is (Tile tile) d s h =
     ⊎_elim (λ e. let k : None ≡ Some s = rw e at h in cc)
     (λ e. let k : Some (d.all_named, with_number tile d.tiles) ≡ Some s = rw e at h in let f = some_is (d.all_named, with_number tile d.tiles) s k in
-        rw e (ap (λ (t : Bool × List ℕ). Ok (named d t)) f)) (cases_Bool (has tile d.tiles))
+    rw e (ap (λ (t : Bool × List ℕ). Ok (named d t)) f)) (cases_Bool (has tile d.tiles))
 
 -- code
 
@@ -236,4 +236,3 @@ one_table d n t s ready h e =
       same = ap (λ (bs : List BeatLine). record { line = 0; x = t.x; y = t.y; beats = bs }) beats.same;
       leads = subst (λ (f : Draft). Leads d n (table_text t) f (beats.behind + 1)) (table_after d (n + 1) t.x t.y s beats.read ready.beats) two;
     }
-

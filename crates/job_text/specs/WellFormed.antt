@@ -171,7 +171,7 @@ unlined job = record {
   fills = map fill_unlined job.fills;
   tables = map table_unlined job.tables;
   script = map script_unlined job.script;
-  graph = option_map text_unlined job.graph
+  graph = option_map text_unlined job.graph;
 }
 
 -- the printed form is read as a job that differs in nothing but the numbers of lines

@@ -8,5 +8,4 @@ use crate::job::Job;
 pub fn law_read_back(_job: &Job)
     requires { IsWellFormed _job.now }
     ensures { ReadsBack _job.now }
-{
-}
+{}
