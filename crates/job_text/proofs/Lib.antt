@@ -10,3 +10,7 @@ pub mod Whole
 pub mod ReadBack
 pub mod Bytes
 pub mod Contents
+pub mod Names
+pub mod Keeps
+pub mod Taken
+pub mod ReadJob

@@ -1,6 +1,4 @@
 use Rattle.job_text.proofs.ReadBack.{reads_back}
-use Rattle.job_text.proofs.Bytes.{word_fits}
-use Rattle.job_text.proofs.Contents.{no_hash}
 use Rattle.job_text.proofs.laws.law_read_back.Goals as goal
 
 pub returns : goal.returns
