@@ -4,9 +4,17 @@
 //! crates cite, stand in `specs/Shape.antt`. Read `Shape::of` first.
 #![tactic(auto)]
 
+pub mod address;
+pub mod bytes;
 pub mod effect;
 pub mod event;
 pub mod ids;
+pub mod laws;
+mod links;
+pub mod mask;
+pub mod message;
+pub mod op;
+pub mod part;
 pub mod regs;
 pub mod shape;
 #[cfg(test)]

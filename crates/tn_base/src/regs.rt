@@ -6,7 +6,7 @@ ghost use Rattle.tn_base.specs.Regs.{set_reg};
 use std::marker::Model;
 
 /// The registers x0 to x31 of the RISC-V manual, section 2.1. A contract sees the list of their words.
-#[derive(Clone, Copy)]
+#[derive(Clone, Copy, PartialEq, Eq, Debug)]
 pub struct Regs {
     words: [u32; 32],
 }

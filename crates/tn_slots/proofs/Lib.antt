@@ -1,0 +1,4 @@
+pub mod Lists
+pub mod Owed
+pub mod Kept
+pub mod Unused

@@ -1,0 +1,6 @@
+pub mod Pool
+pub mod PoolModel
+pub mod QueueModel
+pub mod Queues
+pub mod Slot
+pub mod WellKept

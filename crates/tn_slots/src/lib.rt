@@ -1,0 +1,12 @@
+//! The message slots of one tile: each message is stored once, and its slot is used again when all receivers freed it.
+//!
+//! What each call makes of a pool stands in `specs/Pool.antt`, and what holds of every pool in `specs/WellKept.antt`.
+//! Read `Pool::put` first.
+#![tactic(auto)]
+
+pub mod laws;
+pub mod pool;
+mod queues;
+pub mod slot;
+#[cfg(test)]
+mod tests;

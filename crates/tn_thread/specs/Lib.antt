@@ -1,0 +1,7 @@
+pub mod Fits
+pub mod Memory
+pub mod Registers
+pub mod Same
+pub mod SendSlot
+pub mod Sight
+pub mod Step

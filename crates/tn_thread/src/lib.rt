@@ -1,0 +1,15 @@
+//! A thread: its registers and private memory, and one step of it, seen from its tile through a `View`.
+//!
+//! One step is `turned` of `specs/Step.antt`: from the effect of an instruction, what the thread sees and the
+//! thread, the new thread and what it asks of its tile. Read `Thread::apply` first.
+#![tactic(auto)]
+
+pub mod memory;
+pub mod place;
+pub mod register;
+pub mod state;
+pub mod step;
+#[cfg(test)]
+mod tests;
+pub mod thread;
+pub mod view;

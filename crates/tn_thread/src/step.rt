@@ -1,0 +1,424 @@
+//! One step of a thread.
+
+ghost use Rattle.std.specs.Prelude.{◌≡◌, ◌≤◌, ◌<◌, ◌+◌, ◌*◌, ◌^◌, ◌≢◌, IsTrue};
+ghost use Rattle.tn_thread.specs.Fits.{StepFits};
+ghost use Rattle.tn_thread.specs.Memory.{extended, is_width, sign_filled, value_at};
+ghost use Rattle.tn_thread.specs.Registers.{register_of};
+ghost use Rattle.tn_thread.specs.Step.{FitsStep, IsWithin, Stepped, answered, completed, dest_of, freed, got, is_idle, loaded, place_of, read_by, resumed, runnable, sent, stepped, stored, trapped, went, went_to, write_by, write_row};
+
+use crate::place::Place;
+use crate::register::Register;
+use crate::state::{Target, ThreadState, WaitSet};
+use crate::thread::Thread;
+use crate::view::View;
+use tn_base::bytes::Bytes;
+use tn_base::effect::Effect;
+use tn_base::event::Trap;
+use tn_base::ids::{ThreadId, TileId};
+use tn_base::mask::Mask;
+use tn_base::message::{Dest, HOST};
+use tn_base::op::Op;
+
+/// The address of the first message slot.
+const RECEIVED: u32 = 0x4000_0000;
+
+/// The address of the send slot.
+const SEND_SLOT: u32 = 0x5000_0000;
+
+impl Thread {
+    /// Whether the thread can make a step.
+    #[inline(always)]
+    pub fn runnable<V: View>(&self, view: &V) -> bool
+        ensures { result ≡ runnable (V.sight view.now) self.now.state }
+    {
+        match self.state {
+            ThreadState::Run | ThreadState::Answered(_) => true,
+            ThreadState::Wait(waits) => waits.holds(view.can_send(), view.first().is_some()),
+            ThreadState::Idle(_) => view.first().is_some(),
+            ThreadState::Dead(_) | ThreadState::Trapped(_) => false,
+        }
+    }
+
+    /// One step of a thread that runs, whose instruction has this effect. It traps where the address, the
+    /// control register or the destination that it names is not there, and counts all the same.
+    #[inline(always)]
+    pub fn apply<V: View>(&mut self, effect: Effect, view: &V) -> Op
+        requires running { self.old.state ≡ ThreadState.Run }
+        requires fuel { self.old.steps < self.old.shape.fuel }
+        requires fits { FitsStep effect }
+        ensures step { record { thread = self.new; op = result } ≡ stepped effect (V.sight view.now) self.old }
+        ensures fits { StepFits (V.sight view.now) self.old (record { thread = self.new; op = result }) }
+    {
+        self.act(effect, view)
+    }
+
+    /// The completion of a wait or an idle: an idle reads its answer into its register.
+    pub fn resume<V: View>(&mut self, view: &V) -> Op
+        requires runnable { IsTrue (runnable (V.sight view.now) self.old.state) }
+        requires suspended { self.old.state ≢ ThreadState.Run }
+        requires fuel { self.old.steps < self.old.shape.fuel }
+        ensures step { record { thread = self.new; op = result } ≡ resumed self.old }
+        ensures fits { StepFits (V.sight view.now) self.old (record { thread = self.new; op = result }) }
+    {
+        self.wake()
+    }
+
+    /// Tells a thread that is idle that the machine is at rest.
+    pub fn answer(&mut self, value: u32)
+        requires { IsTrue (is_idle self.old.state) }
+        ensures { self.new ≡ answered value self.old }
+    {
+        self.state = ThreadState::Answered(value);
+    }
+
+    /// The effect of an instruction.
+    #[inline(always)]
+    fn act<V: View>(&mut self, effect: Effect, view: &V) -> Op
+        requires fuel { self.old.steps < self.old.shape.fuel }
+        requires fits { FitsStep effect }
+        ensures { record { thread = self.new; op = result } ≡ stepped effect (V.sight view.now) self.old }
+    {
+        let _limits = self.shape.numbers();
+        match effect {
+            Effect::Next => self.go_on(Op::None),
+            Effect::Jump(target) => self.go_to(target, Op::None),
+            Effect::Load {
+                rd,
+                addr,
+                width,
+                signed,
+            } => self.load(rd, addr, width, signed, view),
+            Effect::Store { addr, width, value } => self.store(addr, width, value),
+            Effect::CsrRead { rd, csr } => self.read(rd, csr, view),
+            Effect::CsrWrite { rd, csr, value } => self.write(rd, csr, value, view),
+            Effect::Trap(trap) => self.trap(trap),
+        }
+    }
+
+    /// The completion of a wait or an idle; a thread in another state stays.
+    fn wake(&mut self) -> Op
+        requires { self.old.steps < self.old.shape.fuel }
+        ensures { record { thread = self.new; op = result } ≡ resumed self.old }
+    {
+        let _limits = self.shape.numbers();
+        match self.state {
+            ThreadState::Wait(_) => {
+                self.state = ThreadState::Run;
+                self.steps += 1;
+                self.given = 0;
+                Op::None
+            }
+            ThreadState::Idle(_) => self.complete(0),
+            ThreadState::Answered(value) => self.complete(value),
+            ThreadState::Run | ThreadState::Dead(_) | ThreadState::Trapped(_) => Op::None,
+        }
+    }
+
+    /// Reads the answer of an idle, and runs on.
+    fn complete(&mut self, value: u32) -> Op
+        requires { self.old.steps + 1 < 2 ^ 32 }
+        ensures { record { thread = self.new; op = result } ≡ completed value self.old }
+    {
+        self.regs.set(self.answer_to.register(), value);
+        self.state = ThreadState::Run;
+        self.steps += 1;
+        self.given = if value == 1 || value == 2 { value } else { 0 };
+        Op::None
+    }
+
+    /// Goes on at an address.
+    #[inline(always)]
+    fn go_to(&mut self, target: u32, op: Op) -> Op
+        requires { self.old.steps + 1 < 2 ^ 32 }
+        ensures { record { thread = self.new; op = result } ≡ went_to target self.old op }
+    {
+        self.pc = target;
+        self.steps += 1;
+        self.given = 0;
+        op
+    }
+
+    /// Goes on behind the instruction.
+    #[inline(always)]
+    fn go_on(&mut self, op: Op) -> Op
+        requires { self.old.steps + 1 < 2 ^ 32 }
+        ensures { record { thread = self.new; op = result } ≡ went self.old op }
+    {
+        self.go_to(self.pc.wrapping_add(4), op)
+    }
+
+    /// Reads a value into a register, and goes on.
+    #[inline(always)]
+    fn finish_read(&mut self, rd: u8, value: u32, op: Op) -> Op
+        requires room { self.old.steps + 1 < 2 ^ 32 }
+        requires rd { rd < 32 }
+        ensures { record { thread = self.new; op = result } ≡ got rd value op self.old }
+    {
+        self.regs.set(rd, value);
+        self.go_on(op)
+    }
+
+    /// Traps.
+    fn trap(&mut self, trap: Trap) -> Op
+        requires { self.old.steps + 1 < 2 ^ 32 }
+        ensures { record { thread = self.new; op = result } ≡ trapped trap self.old }
+    {
+        self.state = ThreadState::Trapped(trap);
+        self.steps += 1;
+        Op::Trap(trap)
+    }
+
+    /// What `width` bytes from an address on are.
+    #[inline(always)]
+    fn place(&self, addr: u32, width: u8) -> Place
+        requires { IsTrue (is_width width) }
+        ensures value { result ≡ place_of addr width self.now }
+        ensures within { IsWithin width self.now result }
+    {
+        let end = addr as usize + width as usize;
+        if addr % u32::from(width) != 0 {
+            return Place::Misaligned;
+        }
+        if end <= self.mem.len() {
+            return Place::Private(addr);
+        }
+        let size = self.out.len() as u32;
+        if addr >= SEND_SLOT && end - SEND_SLOT as usize <= size as usize {
+            return Place::SendSlot(addr - SEND_SLOT);
+        }
+        if addr >= RECEIVED && (addr - RECEIVED) / size < 65536 {
+            let past = addr - RECEIVED;
+            return Place::Received((past / size) as u16, past % size);
+        }
+        Place::Nowhere
+    }
+
+    /// A load of a byte, a halfword or a word.
+    #[inline(always)]
+    fn load<V: View>(&mut self, rd: u8, addr: u32, width: u8, signed: bool, view: &V) -> Op
+        requires room { self.old.steps + 1 < 2 ^ 32 }
+        requires rd { rd < 32 }
+        requires width { IsTrue (is_width width) }
+        ensures { record { thread = self.new; op = result } ≡ loaded rd addr width signed (V.sight view.now) self.old }
+    {
+        match self.place(addr, width) {
+            Place::Private(at) => {
+                let value = self.mem.value_at(at as usize, width);
+                self.finish_read(rd, extend(width, signed, value), Op::None)
+            }
+            Place::SendSlot(at) => {
+                let value = self.out.value_at(at as usize, width);
+                self.finish_read(rd, extend(width, signed, value), Op::None)
+            }
+            Place::Received(slot, at) => match view.held(slot) {
+                Some(message) => {
+                    let value = message_value(message, at as usize, width);
+                    self.finish_read(rd, extend(width, signed, value), Op::None)
+                }
+                None => self.trap(Trap::BadAddress),
+            },
+            Place::Misaligned => self.trap(Trap::Misaligned),
+            Place::Nowhere => self.trap(Trap::BadAddress),
+        }
+    }
+
+    /// A store of a byte, a halfword or a word.
+    #[inline(always)]
+    fn store(&mut self, addr: u32, width: u8, value: u32) -> Op
+        requires room { self.old.steps + 1 < 2 ^ 32 }
+        requires width { IsTrue (is_width width) }
+        ensures { record { thread = self.new; op = result } ≡ stored addr width value self.old }
+    {
+        match self.place(addr, width) {
+            Place::Private(at) => {
+                self.mem.write(at as usize, width, value);
+                self.go_on(Op::None)
+            }
+            Place::SendSlot(at) => {
+                self.out.write(at as usize, width, value);
+                self.go_on(Op::None)
+            }
+            Place::Misaligned => self.trap(Trap::Misaligned),
+            Place::Received(_, _) | Place::Nowhere => self.trap(Trap::BadAddress),
+        }
+    }
+
+    /// A read of a control register.
+    fn read<V: View>(&mut self, rd: u8, csr: u16, view: &V) -> Op
+        requires room { self.old.steps + 1 < 2 ^ 32 }
+        requires rd { rd < 32 }
+        ensures { record { thread = self.new; op = result } ≡ read_by (register_of csr) rd (V.sight view.now) self.old }
+    {
+        let Some(register) = Register::of(csr) else {
+            return self.trap(Trap::BadCsr);
+        };
+        if self.firmware && !register.is_open() {
+            return self.trap(Trap::BadCsr);
+        }
+        match register {
+            Register::HartId => self.finish_read(rd, self.id.0, Op::None),
+            Register::CanSend => self.finish_read(rd, u32::from(view.can_send()), Op::None),
+            Register::CanRecv => self.finish_read(rd, u32::from(view.first().is_some()), Op::None),
+            Register::Recv => match view.first() {
+                Some(slot) => {
+                    let address = RECEIVED + self.out.len() as u32 * u32::from(slot);
+                    self.finish_read(rd, address, Op::Hand)
+                }
+                None => self.trap(Trap::RecvEmpty),
+            },
+            Register::SendSlot => self.finish_read(rd, SEND_SLOT, Op::None),
+            _ => self.trap(Trap::BadCsr),
+        }
+    }
+
+    /// A write of a control register.
+    fn write<V: View>(&mut self, rd: u8, csr: u16, value: u32, view: &V) -> Op
+        requires room { self.old.steps + 1 < 2 ^ 32 }
+        requires rd { rd < 32 }
+        ensures { record { thread = self.new; op = result } ≡ write_by (register_of csr) rd value (V.sight view.now) self.old }
+    {
+        let Some(register) = Register::of(csr) else {
+            return self.trap(Trap::BadCsr);
+        };
+        if self.firmware || !register.may_write(rd) {
+            return self.trap(Trap::BadCsr);
+        }
+        self.write_register(register, rd, value, view)
+    }
+
+    /// A write of a control register that may be written.
+    fn write_register<V: View>(&mut self, register: Register, rd: u8, value: u32, view: &V) -> Op
+        requires room { self.old.steps + 1 < 2 ^ 32 }
+        requires rd { rd < 32 }
+        ensures { record { thread = self.new; op = result } ≡ write_row register rd value (V.sight view.now) self.old }
+    {
+        match register {
+            Register::SendLen => {
+                self.out.set_last(value);
+                self.go_on(Op::None)
+            }
+            Register::SendDest => {
+                self.dest = value;
+                self.go_on(Op::None)
+            }
+            Register::MaskLow => {
+                self.mask_low = value;
+                self.go_on(Op::None)
+            }
+            Register::MaskHigh => {
+                self.mask_high = value;
+                self.go_on(Op::None)
+            }
+            Register::Send => self.send(value, view),
+            Register::Free => self.free(value, view),
+            Register::WaitUntil => {
+                self.state = ThreadState::Wait(WaitSet::low_bits_of(value));
+                self.go_on(Op::None)
+            }
+            Register::Idle => {
+                let vote = value != 0;
+                self.state = ThreadState::Idle(vote);
+                self.answer_to = Target::of(rd);
+                self.go_on(Op::Idle(vote))
+            }
+            Register::Kill => {
+                self.state = ThreadState::Dead(value);
+                self.go_on(Op::Kill(value))
+            }
+            _ => self.trap(Trap::BadCsr),
+        }
+    }
+
+    /// The destination of a send of a kind: 0 to a thread or the host, 1 to a mask, 2 by a key.
+    fn destination(&self, kind: u32) -> Option<Dest>
+        ensures { result ≡ dest_of kind self.now }
+    {
+        match kind {
+            0 if self.dest == HOST => Some(Dest::Host),
+            0 => Some(Dest::Thread(ThreadId(self.dest))),
+            1 => {
+                let mask = u64::from(self.mask_low) + 4_294_967_296 * u64::from(self.mask_high);
+                Some(Dest::Mask(TileId(self.dest), Mask::of(mask)))
+            }
+            2 => Some(Dest::Key(self.dest)),
+            _ => None,
+        }
+    }
+
+    /// A send of a kind.
+    fn send<V: View>(&mut self, kind: u32, view: &V) -> Op
+        requires { self.old.steps + 1 < 2 ^ 32 }
+        ensures { record { thread = self.new; op = result } ≡ sent kind (V.sight view.now) self.old }
+    {
+        if !view.can_send() {
+            return self.trap(Trap::SendBusy);
+        }
+        let Some(dest) = self.destination(kind) else {
+            return self.trap(Trap::BadDest);
+        };
+        if !self.shape.has_dest(&dest) {
+            return self.trap(Trap::BadDest);
+        }
+        self.sends = self.sends.wrapping_add(1);
+        let message = self.out.message();
+        self.go_on(Op::Send(dest, message))
+    }
+
+    /// Gives up the slot at an address.
+    fn free<V: View>(&mut self, addr: u32, view: &V) -> Op
+        requires { self.old.steps + 1 < 2 ^ 32 }
+        ensures { record { thread = self.new; op = result } ≡ freed addr (V.sight view.now) self.old }
+    {
+        let size = self.out.len() as u32;
+        if addr < RECEIVED || (addr - RECEIVED) / size >= 65536 || (addr - RECEIVED) % size != 0 {
+            return self.trap(Trap::BadFree);
+        }
+        let slot = ((addr - RECEIVED) / size) as u16;
+        if view.held(slot).is_none() {
+            return self.trap(Trap::BadFree);
+        }
+        self.go_on(Op::Free(slot))
+    }
+}
+
+/// A value of `width` bytes as a word: its sign fills the higher bytes where it is signed, zeros do else.
+#[inline(always)]
+fn extend(width: u8, signed: bool, value: u32) -> u32
+    ensures { result ≡ extended width signed value }
+{
+    match width {
+        1 if signed => fill_sign(256, value),
+        2 if signed => fill_sign(65536, value),
+        _ => value,
+    }
+}
+
+/// The value below `size` as a word whose sign fills the bits above.
+#[inline(always)]
+fn fill_sign(size: u32, value: u32) -> u32
+    requires { 0 < size }
+    ensures { result ≡ sign_filled size value }
+{
+    let low = value % size;
+    if low < size / 2 {
+        low
+    } else {
+        low + (u32::MAX - size + 1)
+    }
+}
+
+/// The number of `width` bytes, 1, 2 or 4, at a place of a message; bytes past its end are 0.
+fn message_value(message: &Bytes, at: usize, width: u8) -> u32
+    requires { at < 2 ^ 32 }
+    ensures { result ≡ value_at message.now at width }
+{
+    let lowest = u32::from(message.byte(at));
+    if width == 1 {
+        return lowest;
+    }
+    let low = lowest + 256 * u32::from(message.byte(at + 1));
+    if width == 2 {
+        return low;
+    }
+    low + 65536 * u32::from(message.byte(at + 2)) + 16_777_216 * u32::from(message.byte(at + 3))
+}
