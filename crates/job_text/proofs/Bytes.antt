@@ -1,8 +1,8 @@
 -- What numbers, words and bytes that were read are.
-use Rattle.std.proofs.Common.{◌≡◌, ℕ, ◌+◌, ◌-◌, ◌*◌, ◌^◌, ◌<◌, ◌≤◌, zero, suc, Bool, true, false, ◌&&◌, eqb, ltb, leb, cond, List, [], ◌∷◌, ◌++◌, Option, Some, None, length, take, drop, get_or, codes, refl, sym, ap, subst, ◌∙◌, ⊎_elim, arith}
+use Rattle.std.proofs.Common.{◌≡◌, ℕ, ◌+◌, ◌*◌, ◌^◌, ◌<◌, zero, suc, true, ◌&&◌, eqb, ltb, List, [], ◌∷◌, Option, Some, None, length, take, drop, codes, refl, sym, ap, subst, ⊎_elim, arith}
 use Rattle.std.specs.declared.result.Result.{Result}
 use Rattle.std.specs.declared.result.Result.TheVariants.{Ok, Err}
-use Rattle.std.specs.Char.{is_digit, digit_value}
+use Rattle.std.specs.Char.{digit_value}
 use Rattle.std.specs.List.{list_all, AllByRecursion, slice_index}
 use Rattle.std.specs.Str.{bytes_eq}
 use Rattle.std.specs.Str.Parse.{digits_value, AllDigits}
@@ -63,11 +63,11 @@ index_fits (n ∷ ns) (suc k) h = index_fits ns k h.1
 byte_fits : (a b x : ℕ) → hex_byte_of a b ≡ Some x → x < 256
 byte_fits a b x h =
     ⊎_elim (λ e.
-        let both = and_parts (is_hex_digit a) (is_hex_digit b) e in
-        let high = ltb-true (digit_value a) 16 both.0 in
-        let low = ltb-true (digit_value b) 16 both.1 in
-        let k : Some (digit_value a * 16 + digit_value b) ≡ Some x = rw e at h in
-        let same : x ≡ digit_value a * 16 + digit_value b = cc in omega arith)
+    let both = and_parts (is_hex_digit a) (is_hex_digit b) e in
+    let high = ltb-true (digit_value a) 16 both.0 in
+    let low = ltb-true (digit_value b) 16 both.1 in
+    let k : Some (digit_value a * 16 + digit_value b) ≡ Some x = rw e at h in
+    let same : x ≡ digit_value a * 16 + digit_value b = cc in omega arith)
     (λ e. let k : None ≡ Some x = rw e at h in cc) (cases_Bool (is_hex_digit a && is_hex_digit b))
 
 byte_parts : (b : Option ℕ) (more : Option (List ℕ)) (bytes : List ℕ) → byte_before b more ≡ Some bytes → (x : ℕ) × (xs : List ℕ) × (b ≡ Some x) × (more ≡ Some xs) × (bytes ≡ x ∷ xs)
@@ -104,9 +104,9 @@ bytes_some text bytes s h = omega (arith, bytes_length text bytes h, some_length
 pub array_fits : (text bytes : List ℕ) → hex_array_of 32 text ≡ Some bytes → AreBytes bytes × (length bytes ≡ 32)
 array_fits text bytes h =
     ⊎_elim (λ e.
-        let k : hex_bytes_of text ≡ Some bytes = rw e at h in
-        let long = eqb-true (length text) 64 e in
-        (bytes_fit text bytes k, omega (arith, bytes_length text bytes k)))
+    let k : hex_bytes_of text ≡ Some bytes = rw e at h in
+    let long = eqb-true (length text) 64 e in
+    (bytes_fit text bytes k, omega (arith, bytes_length text bytes k)))
     (λ e. let k : None ≡ Some bytes = rw e at h in cc) (cases_Bool (eqb (length text) 64))
 
 all_digits : (text : List ℕ) → list_all is_hex_digit text ≡ true → AllDigits 16 text
@@ -118,11 +118,11 @@ all_digits (b ∷ bs) h =
 pub word_fits : (text : List ℕ) (w : ℕ) → hex_word_of text ≡ Some w → w < 2 ^ 32
 word_fits text w h =
     ⊎_elim (λ e.
-        let both = and_parts (eqb (length text) 8) (list_all is_hex_digit text) e in
-        let k : Some (digits_value 16 text) ≡ Some w = rw e at h in
-        let same : w ≡ digits_value 16 text = cc in
-        let long : length text ≡ 8 = eqb-true (length text) 8 both.0 in
-        let small = digits_value-lt 16 text (all_digits text both.1) in
-        let eight : digits_value 16 text < 16 ^ 8 = rw long at small in
-        omega arith)
+    let both = and_parts (eqb (length text) 8) (list_all is_hex_digit text) e in
+    let k : Some (digits_value 16 text) ≡ Some w = rw e at h in
+    let same : w ≡ digits_value 16 text = cc in
+    let long : length text ≡ 8 = eqb-true (length text) 8 both.0 in
+    let small = digits_value-lt 16 text (all_digits text both.1) in
+    let eight : digits_value 16 text < 16 ^ 8 = rw long at small in
+    omega arith)
     (λ e. let k : None ≡ Some w = rw e at h in cc) (cases_Bool (eqb (length text) 8 && list_all is_hex_digit text))

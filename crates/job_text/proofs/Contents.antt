@@ -1,5 +1,5 @@
 -- What a line's content is.
-use Rattle.std.proofs.Common.{◌≡◌, ℕ, ◌+◌, ◌-◌, ◌<◌, ◌≤◌, zero, suc, Bool, true, false, not, ◌&&◌, ◌||◌, List, [], ◌∷◌, ◌++◌, length, take, drop, reverse, get_or, filter, refl, sym, ap, subst, ◌∙◌, ⊎_elim, inl, inr, arith, one-add, take_all, codes}
+use Rattle.std.proofs.Common.{◌≡◌, ℕ, ◌+◌, ◌-◌, ◌<◌, ◌≤◌, zero, suc, Bool, true, false, not, List, [], ◌∷◌, length, take, drop, reverse, get_or, filter, refl, sym, ap, ◌∙◌, ⊎_elim, arith, one-add, take_all, codes}
 use Rattle.std.specs.List.{list_all, list_any, prefix_len, suffix_len, slice_split, AllByRecursion}
 use Rattle.std.specs.Str.{bytes_eq}
 use Rattle.std.proofs.lemmas.Bool.{cases_Bool, cases_lt, and_parts, and_from, or_from, not-true}

@@ -1,43 +1,33 @@
 -- Each line that is taken keeps a draft good, so what a text says is well formed.
-use Rattle.std.proofs.Common.{◌≡◌, ◌⊎◌, ℕ, ◌+◌, ◌-◌, ◌*◌, ◌^◌, ◌<◌, ◌≤◌, zero, suc, Bool, true, false, eqb, ltb, leb, cond, List, [], ◌∷◌, ◌++◌, Option, Some, None, length, map, flat_map, codes, refl, sym, ap, subst, ◌∙◌, ⊎_elim, inl, inr, arith, append-nil, append_assoc, length-append}
+use Rattle.std.proofs.Common.{◌≡◌, ◌⊎◌, ℕ, ◌+◌, ◌^◌, ◌<◌, ◌≤◌, true, false, cond, List, [], ◌∷◌, ◌++◌, Option, Some, None, length, map, flat_map, codes, refl, sym, ap, subst, ◌∙◌, ⊎_elim, inl, arith, append-nil, append_assoc, length-append}
 use Rattle.std.specs.declared.result.Result.{Result}
 use Rattle.std.specs.declared.result.Result.TheVariants.{Ok, Err}
-use Rattle.std.specs.List.{AllByRecursion, slice_index, list_any}
-use Rattle.std.specs.Str.{bytes_eq}
-use Rattle.std.specs.Option.{is_some, option_and_then}
-use Rattle.std.proofs.lemmas.Bool.{cases_Bool, ltb-true, leb-true}
+use Rattle.std.specs.List.{AllByRecursion}
+use Rattle.std.proofs.lemmas.Bool.{cases_Bool}
 use Rattle.std.proofs.lemmas.Bool.Decides.{nat_tests}
 use Rattle.job_text.specs.declared.keyword.Setting.{Setting}
 use Rattle.job_text.specs.declared.keyword.Setting.TheVariants.{Slots, Link, Mem, Fuel, Turn}
 use Rattle.job_text.specs.Keyword.{with_setting}
 use Rattle.job_text.specs.declared.job.BeatLine.{BeatLine}
 use Rattle.tn_base.specs.declared.shape.ShapeNumbers.{ShapeNumbers}
-use Rattle.tn_text.specs.declared.numbers.Numeral.{Numeral}
-use Rattle.tn_text.specs.declared.numbers.Numeral.TheVariants.{Value, TooLarge, NoNumber}
 use Rattle.tn_text.specs.Lines.{lines_of}
-use Rattle.tn_text.specs.Content.{content_of, is_plain}
-use Rattle.tn_text.specs.Words.{is_some_text, words_of}
-use Rattle.tn_text.specs.Numbers.{number_of}
-use Rattle.tn_text.specs.Hex.{hex_bytes_of, hex_array_of, hex_word_of}
+use Rattle.tn_text.specs.Words.{words_of}
 use Rattle.job_text.specs.declared.job.JobKind.{JobKind}
-use Rattle.job_text.specs.declared.job.JobKind.TheVariants.{Header, NoShape, BadLine, BadNumber, Twice, NoEnd, BadWord, TooMany}
 use Rattle.job_text.specs.declared.job.Owner.{Owner}
 use Rattle.job_text.specs.declared.job.Owner.TheVariants.{All, Tile}
 use Rattle.job_text.specs.declared.job.CodeSection.{CodeSection}
 use Rattle.job_text.specs.declared.job.TextSection.{TextSection}
 use Rattle.job_text.specs.declared.job.TableSection.{TableSection}
 use Rattle.job_text.specs.declared.job.ScriptText.{ScriptText}
-use Rattle.job_text.specs.declared.job.Job.{Job}
 use Rattle.job_text.specs.declared.draft.Place.{Place}
 use Rattle.job_text.specs.declared.draft.Place.TheVariants.{AtHeader, AtShape, AtSettings, AtSections, InCode, InAsm, InTable, InGraph}
 use Rattle.job_text.specs.declared.draft.Draft.{Draft}
 use Rattle.job_text.specs.Seen.{has, with_number}
-use Rattle.job_text.specs.Arguments.{exactly, numbers_of, one_of, one_number_of, number_in, owner_in}
+use Rattle.job_text.specs.Arguments.{exactly}
 use Rattle.job_text.specs.Printed.{feed}
-use Rattle.job_text.specs.Text.{◌>>=◌, start, header_line, shape_line, owner_named, board_number, shape_with, all_at, code_ended, table_ended, asm_ended, graph_ended, text_added}
-use Rattle.job_text.specs.WellFormed.{named_by, owner_allowed, IsOwner, IsCode, IsTextLine, fed, IsText, IsAsm, IsFill, IsBeat, IsTable, IsScriptText, IsScript, IsGraphText, IsGraph, AreNumbers, IsWellFormed}
-use Rattle.job_text.proofs.Bytes.{number_fits, one_fits, numbers_fit, index_fits, bytes_fit, bytes_some, array_fits, word_fits}
-use Rattle.job_text.proofs.Contents.{content_good, words_some}
+use Rattle.job_text.specs.Text.{◌>>=◌, start, board_number, shape_with, all_at, code_ended, table_ended, asm_ended, graph_ended, text_added}
+use Rattle.job_text.specs.WellFormed.{named_by, IsOwner, IsCode, IsTextLine, fed, IsText, IsAsm, IsFill, IsBeat, IsTable, IsScriptText, IsScript, IsGraph, AreNumbers}
+use Rattle.job_text.proofs.Bytes.{index_fits}
 use Rattle.job_text.proofs.Inside.{lines_of-unbroken}
 use Rattle.job_text.proofs.Names.{at, has-with, one, tile_count, all_count, tile_count-append, all_count-append, named_by-append}
 
@@ -176,7 +166,6 @@ closed_by (InAsm line owner) d c f = absurd c
 closed_by (InTable line x y) d c f = absurd c
 closed_by (InGraph line) d c f = absurd c
 
-
 abbrev pub filled : Draft → ℕ → ℕ → ℕ → List ℕ → Draft
 filled d n thread address bytes = record d { place = AtSections; job = record d.job { fills = d.job.fills ++ record { line = n; thread = thread; address = address; bytes = bytes } ∷ [] } }
 
@@ -254,7 +243,6 @@ good_header d n v h c is = record {
   all_once = c.alls;
   boards_once = c.boards;
 }
-
 
 count_zero : (a b c d : ℕ) → a + b + c ≡ d → (a + c) + b + 0 ≡ d
 count_zero a b c d e = omega arith
@@ -384,12 +372,12 @@ at_same t u h = grind (arith, nat_tests)
 one_named : (t u : ℕ) (s : List ℕ) → has u s ≡ false → one (has t (with_number u s)) ≡ one (at t u) + one (has t s)
 one_named t u s free =
     ⊎_elim (λ e.
-        let same = at_same t u e in
-        let gone : has t s ≡ false = rw same free in
-        let with_t : has t (with_number u s) ≡ true = has-with t u s ∙ rw e refl in
-        rw (with_t, e, gone) refl)
+    let same = at_same t u e in
+    let gone : has t s ≡ false = rw same free in
+    let with_t : has t (with_number u s) ≡ true = has-with t u s ∙ rw e refl in
+    rw (with_t, e, gone) refl)
     (λ e. let with_t : has t (with_number u s) ≡ has t s = has-with t u s ∙ rw e refl in
-        omega (arith, ap one with_t, ap one e))
+    omega (arith, ap one with_t, ap one e))
     (cases_Bool (at t u))
 
 pub good_code_all : (d : Draft) (n : ℕ) → Good d → Closed d → d.all_named ≡ false → Good (record d { all_named = true; place = InCode n All })
@@ -484,7 +472,7 @@ pub good_table : (d : Draft) (n x y : ℕ) → Good d → Closed d → has (boar
 good_table d n x y h c free hx hy =
     let before : named_by number_allowed [] (map table_board d.job.tables) ≡ Some d.boards = ap (named_by number_allowed []) (sym (append-nil (map table_board d.job.tables))) ∙ c.boards in
     let after : named_by number_allowed [] (map table_board d.job.tables ++ board_number x y ∷ []) ≡ Some (with_number (board_number x y) d.boards) =
-        named_by-append number_allowed [] (map table_board d.job.tables) (board_number x y ∷ []) ∙ rw (before, free) refl in
+    named_by-append number_allowed [] (map table_board d.job.tables) (board_number x y ∷ []) ∙ rw (before, free) refl in
     record {
       version = h.version;
       same = h.same;
@@ -639,7 +627,7 @@ text_by : (p : Place) (text l : List ℕ) → IsKept p → TextIs p text → IsT
 text_by (InAsm line owner) text l k h good = text_push text l h good
 text_by (InGraph line) text l k g good =
     let same : text ++ l ++ feed ≡ g.0 ++ feed ++ (g.1 ++ l ++ feed) =
-        ap (λ (t : List ℕ). t ++ l ++ feed) g.4 ∙ ap (λ (t : List ℕ). t ++ feed) (append_assoc (g.0 ++ feed) g.1 l) ∙ append_assoc (g.0 ++ feed) (g.1 ++ l) feed in
+    ap (λ (t : List ℕ). t ++ l ++ feed) g.4 ∙ ap (λ (t : List ℕ). t ++ feed) (append_assoc (g.0 ++ feed) g.1 l) ∙ append_assoc (g.0 ++ feed) (g.1 ++ l) feed in
     (g.0, g.1 ++ l ++ feed, g.2, g.3, same, g.5, g.6, g.7, text_push g.1 l g.8 good)
 text_by AtHeader text l k h good = absurd k
 text_by (AtShape line) text l k h good = absurd k

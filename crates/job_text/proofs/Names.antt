@@ -1,7 +1,6 @@
 -- What is named once.
-use Rattle.std.proofs.Common.{◌≡◌, ℕ, ◌+◌, ◌<◌, ◌≤◌, Bool, true, false, cond, ◌||◌, not, eqb, List, [], ◌∷◌, ◌++◌, Option, Some, None, Ordering, map, refl, sym, ap, subst, ◌∙◌, ⊎_elim, arith}
+use Rattle.std.proofs.Common.{◌≡◌, ℕ, ◌+◌, ◌≤◌, Bool, true, false, ◌||◌, List, [], ◌∷◌, ◌++◌, Option, Some, None, Ordering, map, refl, ap, ◌∙◌, ⊎_elim, arith}
 use Rattle.std.specs.declared.cmp.Ordering.TheVariants.{Less, Equal, Greater}
-use Rattle.std.specs.List.{list_any}
 use Rattle.std.specs.Option.{is_some, option_and_then}
 use Rattle.std.specs.Ordering.{nat_cmp, match_ordering}
 use Rattle.std.specs.BTreeMap.{is_at}
@@ -80,11 +79,11 @@ named_once (All ∷ os) false s h k = named_once os true s (omega arith) k
 named_once (Tile u ∷ os) a s h k =
     let self = at_self u in
     ⊎_elim (λ e. absurd (omega (arith, k u, ap one self, ap one e)))
-    (λ e. 
-        let rest : (t : ℕ) → tile_count t os + one (has t (with_number u s)) ≤ 1 =
-            λ t. omega (arith, k t, ap one (has-with t u s), one_or (at t u) (has t s)) in
-        let more = named_once os a (with_number u s) h rest in
-        rw e more) (cases_Bool (has u s))
+    (λ e.
+    let rest : (t : ℕ) → tile_count t os + one (has t (with_number u s)) ≤ 1 =
+    λ t. omega (arith, k t, ap one (has-with t u s), one_or (at t u) (has t s)) in
+    let more = named_once os a (with_number u s) h rest in
+    rw e more) (cases_Bool (has u s))
 
 named_then : {T S : Type 0} (f : S → T → Option S) (o : Option S) (xs ys : List T) → ((t : S) → named_by f t (xs ++ ys) ≡ option_and_then (λ u. named_by f u ys) (named_by f t xs))
     → option_and_then (λ t. named_by f t (xs ++ ys)) o ≡ option_and_then (λ u. named_by f u ys) (option_and_then (λ t. named_by f t xs) o)

@@ -1,12 +1,9 @@
 -- A job that was read is well formed.
-use Rattle.std.proofs.Common.{◌≡◌, ◌⊎◌, ℕ, ◌+◌, ◌≤◌, Bool, true, false, List, [], ◌∷◌, ◌++◌, Option, Some, None, map, refl, sym, ap, subst, ◌∙◌, ⊎_elim, inl, inr, arith, append-nil, IfOk}
+use Rattle.std.proofs.Common.{◌≡◌, ℕ, ◌+◌, ◌≤◌, Bool, true, false, List, [], ◌∷◌, ◌++◌, Option, Some, None, map, refl, sym, ap, subst, ◌∙◌, arith, append-nil, IfOk}
 use Rattle.std.specs.declared.result.Result.{Result}
 use Rattle.std.specs.declared.result.Result.TheVariants.{Ok, Err}
 use Rattle.std.specs.Option.{is_some, option_and_then}
 use Rattle.job_text.specs.declared.job.JobKind.{JobKind}
-use Rattle.job_text.specs.declared.job.CodeSection.{CodeSection}
-use Rattle.job_text.specs.declared.job.TextSection.{TextSection}
-use Rattle.job_text.specs.declared.job.TableSection.{TableSection}
 use Rattle.job_text.specs.declared.job.Job.{Job}
 use Rattle.job_text.specs.declared.job.JobFault.{JobFault}
 use Rattle.job_text.specs.declared.job.JobStop.{JobStop}
@@ -17,8 +14,8 @@ use Rattle.job_text.specs.Gives.{Gives}
 use Rattle.job_text.specs.Seen.{has}
 use Rattle.job_text.specs.Text.{start, step, read_on, ended, job_after, job_of}
 use Rattle.job_text.specs.WellFormed.{named_by, owner_allowed, code_allowed, asm_allowed, table_allowed, IsWellFormed}
-use Rattle.job_text.proofs.Names.{one, tile_count, all_count, tile_count-append, all_count-append, named_once, named_by-append, named_by-map}
-use Rattle.job_text.proofs.Keeps.{Good, Closed, IsClosed, facts_at, closed_by, code_owner, asm_owner, table_board, number_allowed, good_start}
+use Rattle.job_text.proofs.Names.{one, tile_count-append, all_count-append, named_once, named_by-append, named_by-map}
+use Rattle.job_text.proofs.Keeps.{Good, Closed, facts_at, closed_by, code_owner, asm_owner, table_board, number_allowed, good_start}
 use Rattle.job_text.proofs.Taken.{take_line}
 
 one_at_most : (b : Bool) → one b ≤ 1
@@ -37,17 +34,17 @@ owners_once d c =
     let codes = map code_owner d.job.codes in
     let asms = map asm_owner d.job.asms in
     let once = named_once (codes ++ asms) false [] (omega (arith, all_count-append codes asms, c.alls, one_at_most d.all_named))
-        (λ t. omega (arith, tile_count-append t codes asms, c.tiles t, one_at_most (has t d.tiles))) in
+    (λ t. omega (arith, tile_count-append t codes asms, c.tiles t, one_at_most (has t d.tiles))) in
     let parted : named_by owner_allowed (false, []) (codes ++ asms) ≡ option_and_then (λ s. named_by asm_allowed s d.job.asms) (named_by code_allowed (false, []) d.job.codes) =
-        named_by-append owner_allowed (false, []) codes asms
-        ∙ ap (option_and_then (λ s. named_by owner_allowed s asms)) (named_by-map owner_allowed code_owner (false, []) d.job.codes)
-        ∙ then_same (λ s. named_by owner_allowed s asms) (λ s. named_by asm_allowed s d.job.asms) (named_by code_allowed (false, []) d.job.codes) (λ s. named_by-map owner_allowed asm_owner s d.job.asms) in
+    named_by-append owner_allowed (false, []) codes asms
+    ∙ ap (option_and_then (λ s. named_by owner_allowed s asms)) (named_by-map owner_allowed code_owner (false, []) d.job.codes)
+    ∙ then_same (λ s. named_by owner_allowed s asms) (λ s. named_by asm_allowed s d.job.asms) (named_by code_allowed (false, []) d.job.codes) (λ s. named_by-map owner_allowed asm_owner s d.job.asms) in
     ap is_some (sym parted) ∙ once
 
 tables_once : (d : Draft) → Closed d → is_some (named_by table_allowed [] d.job.tables) ≡ true
 tables_once d c =
     some_since (named_by table_allowed [] d.job.tables) d.boards
-        (sym (named_by-map number_allowed table_board [] d.job.tables) ∙ ap (named_by number_allowed []) (sym (append-nil (map table_board d.job.tables))) ∙ c.boards)
+    (sym (named_by-map number_allowed table_board [] d.job.tables) ∙ ap (named_by number_allowed []) (sym (append-nil (map table_board d.job.tables))) ∙ c.boards)
 
 well_formed : (d : Draft) → Good d → Closed d → IsWellFormed d.job
 well_formed d h c = record {

@@ -1,18 +1,17 @@
 -- A line that is taken keeps a draft good.
-use Rattle.std.proofs.Common.{◌≡◌, ◌⊎◌, ℕ, ◌+◌, ◌^◌, ◌<◌, ◌≤◌, Bool, true, false, eqb, ltb, leb, cond, ◌&&◌, List, [], ◌∷◌, ◌++◌, Option, Some, None, length, map, codes, refl, sym, ap, subst, ◌∙◌, ⊎_elim, inl, inr, arith}
+use Rattle.std.proofs.Common.{◌≡◌, ◌⊎◌, ℕ, ◌+◌, ◌^◌, ◌<◌, ◌≤◌, Bool, true, false, eqb, ltb, leb, cond, List, [], ◌∷◌, Option, Some, None, length, codes, refl, sym, ap, subst, ◌∙◌, ⊎_elim, inl, inr}
 use Rattle.std.specs.declared.result.Result.{Result}
 use Rattle.std.specs.declared.result.Result.TheVariants.{Ok, Err}
 use Rattle.std.specs.List.{AllByRecursion, slice_index}
 use Rattle.std.specs.Str.{bytes_eq}
 use Rattle.std.specs.Option.{is_some}
 use Rattle.std.proofs.lemmas.Bool.{cases_Bool, ltb-true, leb-true, eqb-true, and_parts}
-use Rattle.tn_text.specs.declared.numbers.Numeral.{Numeral}
 use Rattle.tn_text.specs.Content.{content_of, is_plain}
 use Rattle.tn_text.specs.Words.{is_some_text, words_of}
 use Rattle.tn_text.specs.Numbers.{number_of}
 use Rattle.tn_text.specs.Hex.{hex_bytes_of, hex_array_of, hex_word_of}
 use Rattle.job_text.specs.declared.job.JobKind.{JobKind}
-use Rattle.job_text.specs.declared.job.JobKind.TheVariants.{Header, NoShape, BadLine, BadNumber, Twice, NoEnd, BadWord, TooMany}
+use Rattle.job_text.specs.declared.job.JobKind.TheVariants.{NoShape, BadLine, BadNumber, Twice, TooMany}
 use Rattle.job_text.specs.declared.job.Owner.{Owner}
 use Rattle.job_text.specs.declared.job.Owner.TheVariants.{All, Tile}
 use Rattle.job_text.specs.declared.job.ScriptText.TheVariants.{Send, Idle}
@@ -23,14 +22,14 @@ use Rattle.job_text.specs.declared.keyword.Keyword.TheVariants.{Number, Code, As
 use Rattle.job_text.specs.declared.draft.Place.{Place}
 use Rattle.job_text.specs.declared.draft.Place.TheVariants.{AtHeader, AtShape, AtSettings, AtSections, InCode, InAsm, InTable, InGraph}
 use Rattle.job_text.specs.declared.draft.Draft.{Draft}
-use Rattle.job_text.specs.Seen.{has, with_number}
+use Rattle.job_text.specs.Seen.{has}
 use Rattle.job_text.specs.Arguments.{exactly, numbers_of, one_of, two_of, three_of, one_number_of, number_by, number_in, owner_by, owner_in, tile_owner, pair_in}
-use Rattle.job_text.specs.Keyword.{keyword_of, setting_in, with_setting}
-use Rattle.job_text.specs.Text.{◌>>=◌, version_number, version_by, headed, header_line, shaped, shape_line, set_once, setting_line, owner_named, code_head, asm_head, board_number, table_at, table_head, graph_at, graph_head, fill_bytes, fill_by, scripted, send_bytes, send_by, idle_line, host_line, keyword_line, entry_line, code_ended, word_added, word_by, word_line, table_ended, beat_added, beat_by, beat_line, text_added, asm_ended, asm_line, graph_ended, graph_line, content_line, step}
-use Rattle.job_text.specs.WellFormed.{AreBytes, IsOwner, IsTextLine, IsFill}
-use Rattle.job_text.proofs.Bytes.{number_fits, one_fits, numbers_fit, index_fits, bytes_fit, bytes_some, array_fits, word_fits}
+use Rattle.job_text.specs.Keyword.{keyword_of, setting_in}
+use Rattle.job_text.specs.Text.{◌>>=◌, version_number, version_by, headed, header_line, shaped, shape_line, set_once, setting_line, owner_named, board_number, table_at, graph_at, graph_head, fill_bytes, fill_by, scripted, send_bytes, send_by, idle_line, host_line, keyword_line, entry_line, word_added, word_by, word_line, beat_added, beat_by, beat_line, asm_line, graph_line, content_line, step}
+use Rattle.job_text.specs.WellFormed.{AreBytes, IsOwner, IsTextLine}
+use Rattle.job_text.proofs.Bytes.{one_fits, numbers_fit, index_fits, bytes_fit, bytes_some, array_fits, word_fits}
 use Rattle.job_text.proofs.Contents.{content_good, words_some}
-use Rattle.job_text.proofs.Keeps.{Good, Closed, IsClosed, IsKept, facts_at, closed_by, good_ok, bind_ok, good_header, good_shape, good_setting, good_code_all, good_code_tile, good_asm_all, good_asm_tile, good_table, good_graph, good_fill, good_script, good_code_ended, good_asm_ended, good_table_ended, good_graph_ended, good_word, good_beat, good_text}
+use Rattle.job_text.proofs.Keeps.{Good, Closed, IsKept, facts_at, closed_by, good_ok, bind_ok, good_header, good_shape, good_setting, good_code_all, good_code_tile, good_asm_all, good_asm_tile, good_table, good_graph, good_fill, good_script, good_code_ended, good_asm_ended, good_table_ended, good_graph_ended, good_word, good_beat, good_text}
 
 -- the words of a line, none of them empty
 abbrev pub AreSome : List (List ℕ) → Type 0
@@ -160,7 +159,7 @@ take_fill d e n (a ∷ b ∷ x ∷ []) some h c t =
     let next = bind_ok (pair_in (numbers_of (a ∷ b ∷ []))) (λ ns. Ok _) e first.2 in
     let fit = pair_fits a b next.0 next.1 in
     good_ok _ e (good_fill d n next.0.0 next.0.1 first.0 h c
-        (record { thread = fit.0; address = fit.1; bytes = bytes_fit x first.0 bytes.0; some = bytes_some x first.0 some.1.1.0 bytes.0; few = bytes.1 })) _ refl next.2
+    (record { thread = fit.0; address = fit.1; bytes = bytes_fit x first.0 bytes.0; some = bytes_some x first.0 some.1.1.0 bytes.0; few = bytes.1 })) _ refl next.2
 take_fill d e n _ some h c t = cc
 
 take_send : (d e : Draft) (n : ℕ) (ws : List (List ℕ)) → AreSome ws → Good d → Closed d → send_by d n (two_of ws) ≡ Ok e → Good e
