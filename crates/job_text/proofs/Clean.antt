@@ -1,12 +1,12 @@
 -- Lines of words, and what reading makes of them.
-use Rattle.std.proofs.Common.{◌≡◌, ℕ, ◌+◌, ◌-◌, ◌<◌, ◌≤◌, suc, Bool, true, false, not, ◌&&◌, ◌||◌, leb, eqb, List, [], ◌∷◌, ◌++◌, length, take, drop, reverse, filter, flat_map, refl, sym, ap, ◌∙◌, ⊎_elim, arith, take_all, append-nil, append_assoc, one-add}
-use Rattle.std.specs.List.{list_all, prefix_len, suffix_len, position_or_len, before_first, slice_split, onto_first}
-use Rattle.std.proofs.lemmas.Bool.{and_parts, and_from, cases_Bool}
+use Rattle.std.proofs.Common.{◌≡◌, ℕ, ◌-◌, Bool, true, false, not, ◌&&◌, ◌||◌, leb, eqb, List, [], ◌∷◌, ◌++◌, length, reverse, filter, flat_map, refl, ap, ◌∙◌, arith, take_all, append-nil, one-add}
+use Rattle.std.specs.List.{list_all, prefix_len, suffix_len, slice_split, onto_first}
+use Rattle.std.proofs.lemmas.Bool.{and_parts, and_from}
 use Rattle.std.proofs.lemmas.Bool.Decides.{nat_tests}
 use Rattle.std.proofs.lemmas.List.{reverse-append}
 use Rattle.std.proofs.lemmas.List.Folds.{list_all-append}
 use Rattle.std.proofs.lemmas.List.Splits.{slice_split-cons_no}
-use Rattle.tn_text.specs.Lines.{is_feed, onto_line, lines_of}
+use Rattle.tn_text.specs.Lines.{is_feed, lines_of}
 use Rattle.tn_text.specs.Content.{is_space, is_hash, may_stand, before_comment, content_of, trimmed, is_plain}
 use Rattle.tn_text.specs.Words.{is_some_text, words_of}
 use Rattle.job_text.specs.Printed.{spaced}

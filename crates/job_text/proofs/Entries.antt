@@ -1,26 +1,24 @@
 -- Sections of one line, as they are printed, are read again.
-use Rattle.std.proofs.Common.{◌≡◌, ◌⊎◌, ℕ, ◌+◌, ◌-◌, ◌^◌, ◌<◌, ◌≤◌, suc, Bool, true, false, eqb, leb, List, [], ◌∷◌, ◌++◌, Option, Some, None, length, map, get_or, flat_map, codes, refl, sym, ap, subst, ◌∙◌, ⊎_elim, inl, inr, arith, append-nil, append_assoc, Fits, w8}
-use Rattle.std.specs.declared.result.Result.{Result}
-use Rattle.std.specs.declared.result.Result.TheVariants.{Ok, Err}
+use Rattle.std.proofs.Common.{◌≡◌, ℕ, ◌+◌, List, [], ◌∷◌, ◌++◌, Option, Some, length, get_or, flat_map, codes, refl, sym, ap, subst, Fits, w8}
+use Rattle.std.specs.declared.result.Result.TheVariants.{Ok}
 use Rattle.std.specs.Fmt.{decimal}
 use Rattle.std.proofs.Math.Facts.{Fits-of_lt}
 use Rattle.std.proofs.lemmas.Bool.{le-leb}
-use Rattle.tn_text.specs.Hex.{hex_text, hex_bytes_of}
+use Rattle.tn_text.specs.Hex.{hex_text}
 use Rattle.tn_text.proofs.Printed.{hex_read_back}
 use Rattle.job_text.specs.declared.job.FillLine.{FillLine}
 use Rattle.job_text.specs.declared.job.ScriptText.{ScriptText}
 use Rattle.job_text.specs.declared.job.ScriptText.TheVariants.{Send, Idle}
 use Rattle.job_text.specs.declared.job.ScriptLine.{ScriptLine}
 use Rattle.job_text.specs.declared.draft.Place.{Place}
-use Rattle.job_text.specs.declared.draft.Place.TheVariants.{AtSettings, AtSections}
+use Rattle.job_text.specs.declared.draft.Place.TheVariants.{AtSections}
 use Rattle.job_text.specs.declared.draft.Draft.{Draft}
 use Rattle.job_text.specs.Printed.{spaced, feed, fill_text, script_text, item_text}
-use Rattle.job_text.specs.Text.{entry_line, scripted}
+use Rattle.job_text.specs.Text.{entry_line}
 use Rattle.job_text.specs.WellFormed.{named_by, AreBytes, IsFill, IsScript, fill_unlined, script_unlined}
-use Rattle.job_text.proofs.Clean.{IsWord, AreWords}
 use Rattle.job_text.proofs.Words.{decimal_word, decimal_value, hex_word}
-use Rattle.job_text.proofs.Leads.{Leads, leads_entry, IsOutside, Ready, spaced_one, spaced_two, spaced_three}
-use Rattle.job_text.proofs.Many.{Kept, One, All, many}
+use Rattle.job_text.proofs.Leads.{Leads, leads_entry, Ready, spaced_three}
+use Rattle.job_text.proofs.Many.{Kept, One}
 
 pub fit_bytes : (bytes : List ℕ) → AreBytes bytes → (k : ℕ) → Fits w8 (get_or bytes k 0)
 fit_bytes bytes h k = Fits-of_lt {w = w8} (h k)

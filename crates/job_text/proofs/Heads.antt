@@ -1,23 +1,19 @@
 -- The header, the shape and the settings, as they are printed, are read again.
-use Rattle.std.proofs.Common.{◌≡◌, ◌⊎◌, ℕ, ◌+◌, ◌-◌, ◌^◌, ◌<◌, ◌≤◌, suc, Bool, true, false, eqb, List, [], ◌∷◌, ◌++◌, Option, Some, None, length, map, flat_map, codes, refl, sym, ap, subst, ◌∙◌, ⊎_elim, inl, inr, arith, append-nil, append_assoc}
-use Rattle.std.specs.declared.result.Result.{Result}
-use Rattle.std.specs.declared.result.Result.TheVariants.{Ok, Err}
+use Rattle.std.proofs.Common.{◌≡◌, ◌⊎◌, ℕ, ◌+◌, ◌^◌, ◌<◌, true, eqb, List, [], ◌∷◌, ◌++◌, Some, map, flat_map, codes, refl, sym, ap, subst, ◌∙◌, ⊎_elim, inl, arith, append_assoc}
+use Rattle.std.specs.declared.result.Result.TheVariants.{Ok}
 use Rattle.std.specs.Fmt.{decimal}
 use Rattle.std.specs.List.{AllByRecursion}
 use Rattle.std.proofs.lemmas.Fmt.{decimal_digit}
 use Rattle.tn_base.specs.declared.shape.ShapeNumbers.{ShapeNumbers}
-use Rattle.tn_text.specs.Words.{words_of}
-use Rattle.job_text.specs.declared.job.JobKind.{JobKind}
-use Rattle.job_text.specs.declared.job.Job.{Job}
 use Rattle.job_text.specs.declared.keyword.Setting.{Setting}
 use Rattle.job_text.specs.declared.keyword.Setting.TheVariants.{Slots, Link, Mem, Fuel, Turn}
 use Rattle.job_text.specs.declared.keyword.Keyword.TheVariants.{Number}
-use Rattle.job_text.specs.declared.draft.Place.TheVariants.{AtShape, AtSettings, AtSections}
+use Rattle.job_text.specs.declared.draft.Place.TheVariants.{AtShape, AtSettings}
 use Rattle.job_text.specs.declared.draft.Draft.{Draft}
-use Rattle.job_text.specs.Arguments.{numbers_of, exactly}
+use Rattle.job_text.specs.Arguments.{numbers_of}
 use Rattle.job_text.specs.Keyword.{keyword_of, setting_in, with_setting}
 use Rattle.job_text.specs.Printed.{spaced, feed, header_text, shape_text, setting_text, settings_text}
-use Rattle.job_text.specs.Text.{start, empty_job, default_numbers, all_at, shape_with, header_line, shape_line, entry_line, setting_line, set_once, ◌>>=◌}
+use Rattle.job_text.specs.Text.{start, empty_job, default_numbers, all_at, shape_with, header_line, shape_line, entry_line}
 use Rattle.job_text.proofs.Clean.{IsWord, AreWords, line_of_words, words_of-line}
 use Rattle.job_text.proofs.Words.{decimal_word, decimal_value}
 use Rattle.job_text.proofs.Leads.{Leads, leads_then, leads_line, leads_entry, spaced_one}

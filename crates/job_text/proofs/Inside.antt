@@ -1,26 +1,24 @@
 -- Lines inside sections, as they are printed, are read again.
-use Rattle.std.proofs.Common.{◌≡◌, ◌⊎◌, ℕ, ◌+◌, ◌-◌, ◌*◌, ◌/◌, ◌%◌, ◌^◌, ◌<◌, ◌≤◌, zero, suc, Bool, true, false, ◌&&◌, eqb, leb, ltb, List, [], ◌∷◌, ◌++◌, Option, Some, None, length, map, get_or, flat_map, codes, refl, sym, ap, subst, ◌∙◌, ⊎_elim, inl, inr, arith, append-nil, append_assoc, length-append, Fits, w8}
-use Rattle.std.specs.declared.result.Result.{Result}
-use Rattle.std.specs.declared.result.Result.TheVariants.{Ok, Err}
+use Rattle.std.proofs.Common.{◌≡◌, ℕ, ◌+◌, ◌*◌, ◌/◌, ◌%◌, ◌^◌, ◌<◌, ◌≤◌, zero, suc, false, ◌&&◌, eqb, List, [], ◌∷◌, ◌++◌, Some, length, map, flat_map, codes, refl, sym, ap, subst, ◌∙◌, arith, append-nil, append_assoc, length-append}
+use Rattle.std.specs.declared.result.Result.TheVariants.{Ok}
 use Rattle.std.specs.Char.{digit_char}
 use Rattle.std.specs.Str.{bytes_eq}
-use Rattle.std.specs.List.{list_all, list_any, AllByRecursion}
-use Rattle.std.proofs.lemmas.Bool.{le-leb, lt-ltb, and_right, and_from, or_parts, eq-eqb}
-use Rattle.tn_text.specs.Lines.{lines_of, is_feed, onto_line}
+use Rattle.std.specs.List.{list_any, AllByRecursion}
+use Rattle.std.proofs.lemmas.Bool.{lt-ltb, and_right, or_parts, eq-eqb}
+use Rattle.tn_text.specs.Lines.{lines_of, is_feed}
 use Rattle.tn_text.specs.Words.{words_of}
-use Rattle.tn_text.specs.Hex.{hex_text, hex_word_text, hex_bytes_of, hex_array_of, hex_word_of}
+use Rattle.tn_text.specs.Hex.{hex_text, hex_word_text, hex_array_of}
 use Rattle.tn_text.proofs.Printed.{hex_read_back, hex_word_read_back}
 use Rattle.job_text.specs.declared.job.Owner.{Owner}
-use Rattle.job_text.specs.declared.job.Owner.TheVariants.{All, Tile}
 use Rattle.job_text.specs.declared.job.BeatLine.{BeatLine}
 use Rattle.job_text.specs.declared.draft.Place.{Place}
-use Rattle.job_text.specs.declared.draft.Place.TheVariants.{InCode, InAsm, InTable, InGraph, AtSections}
+use Rattle.job_text.specs.declared.draft.Place.TheVariants.{InCode, InAsm, InTable, InGraph}
 use Rattle.job_text.specs.declared.draft.Draft.{Draft}
 use Rattle.job_text.specs.Printed.{feed, word_text, beat_text, end_text}
 use Rattle.job_text.specs.Text.{content_line, word_line, word_by, beat_line, beat_by, code_ended, table_ended, asm_ended, graph_ended, text_added}
-use Rattle.job_text.specs.WellFormed.{AreBytes, IsBeat, beat_unlined, IsTextLine, IsText, fed}
-use Rattle.job_text.proofs.Clean.{clean, IsWord, IsLine, line_of_words, words_of-line}
-use Rattle.job_text.proofs.Words.{hex_clean, hex_word}
+use Rattle.job_text.specs.WellFormed.{AreBytes, IsBeat, beat_unlined, IsTextLine, fed}
+use Rattle.job_text.proofs.Clean.{IsWord, IsLine, line_of_words, words_of-line}
+use Rattle.job_text.proofs.Words.{hex_word}
 use Rattle.job_text.proofs.Leads.{Leads, leads_none, leads_then, leads_line, leads_content}
 use Rattle.job_text.proofs.Entries.{fit_bytes}
 

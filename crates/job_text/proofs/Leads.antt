@@ -1,8 +1,7 @@
 -- Reading on from a draft.
-use Rattle.std.proofs.Common.{◌≡◌, ◌⊎◌, ℕ, ◌+◌, ◌-◌, ◌^◌, ◌<◌, ◌≤◌, suc, Bool, true, false, List, [], ◌∷◌, ◌++◌, Option, Some, None, length, flat_map, codes, refl, sym, ap, ◌∙◌, ⊎_elim, inl, inr, arith, append-nil, append_assoc}
+use Rattle.std.proofs.Common.{◌≡◌, ◌⊎◌, ℕ, ◌+◌, true, List, [], ◌∷◌, ◌++◌, flat_map, refl, sym, ap, ◌∙◌, ⊎_elim, append-nil, append_assoc}
 use Rattle.std.specs.declared.result.Result.{Result}
-use Rattle.std.specs.declared.result.Result.TheVariants.{Ok, Err}
-use Rattle.std.specs.Fmt.{decimal}
+use Rattle.std.specs.declared.result.Result.TheVariants.{Ok}
 use Rattle.tn_text.specs.Lines.{lines_of}
 use Rattle.tn_text.specs.Words.{words_of}
 use Rattle.tn_text.specs.Content.{content_of, is_plain}

@@ -8,3 +8,9 @@ pub mod Entries
 pub mod Inside
 pub mod Whole
 pub mod ReadBack
+pub mod Bytes
+pub mod Contents
+pub mod Names
+pub mod Keeps
+pub mod Taken
+pub mod ReadJob

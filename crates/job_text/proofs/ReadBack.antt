@@ -1,11 +1,9 @@
 -- A whole job, as it is printed, is read again.
-use Rattle.std.proofs.Common.{◌≡◌, ◌⊎◌, ℕ, ◌+◌, ◌^◌, ◌<◌, Bool, true, false, List, [], ◌∷◌, ◌++◌, Option, Some, None, length, map, flat_map, codes, refl, sym, ap, subst, ◌∙◌, ⊎_elim, inl, inr, append-nil, append_assoc}
-use Rattle.std.specs.declared.result.Result.{Result}
-use Rattle.std.specs.declared.result.Result.TheVariants.{Ok, Err}
+use Rattle.std.proofs.Common.{◌≡◌, ◌⊎◌, ℕ, ◌+◌, Bool, true, false, List, [], ◌∷◌, ◌++◌, Option, Some, None, map, flat_map, codes, refl, sym, ap, subst, ◌∙◌, ⊎_elim, inl, inr, append-nil, append_assoc}
+use Rattle.std.specs.declared.result.Result.TheVariants.{Ok}
 use Rattle.std.specs.List.{AllByRecursion}
 use Rattle.std.specs.Option.{is_some, option_and_then, option_map}
 use Rattle.tn_text.specs.Lines.{lines_of}
-use Rattle.tn_text.specs.Words.{words_of}
 use Rattle.tn_base.specs.declared.shape.ShapeNumbers.{ShapeNumbers}
 use Rattle.job_text.specs.declared.job.Owner.TheVariants.{All}
 use Rattle.job_text.specs.declared.job.TextSection.{TextSection}
@@ -14,16 +12,15 @@ use Rattle.job_text.specs.declared.job.FillLine.{FillLine}
 use Rattle.job_text.specs.declared.job.TableSection.{TableSection}
 use Rattle.job_text.specs.declared.job.ScriptLine.{ScriptLine}
 use Rattle.job_text.specs.declared.job.Job.{Job}
-use Rattle.job_text.specs.declared.job.JobFault.{JobFault}
 use Rattle.job_text.specs.declared.draft.Place.{Place}
-use Rattle.job_text.specs.declared.draft.Place.TheVariants.{AtSettings, AtSections, InGraph}
+use Rattle.job_text.specs.declared.draft.Place.TheVariants.{AtSections, InGraph}
 use Rattle.job_text.specs.declared.draft.Draft.{Draft}
-use Rattle.job_text.specs.Printed.{feed, end_text, graph_text, header_text, shape_text, settings_text, code_text, asm_text, fill_text, table_text, script_text, sections_text, text_of}
-use Rattle.job_text.specs.Text.{start, entry_line, content_line, job_after, ended, graph_ended}
+use Rattle.job_text.specs.Printed.{feed, end_text, graph_text, header_text, shape_text, settings_text, code_text, asm_text, fill_text, table_text, script_text, sections_text}
+use Rattle.job_text.specs.Text.{start, entry_line, job_after, ended, graph_ended}
 use Rattle.job_text.specs.WellFormed.{named_by, code_allowed, asm_allowed, table_allowed, IsCode, IsAsm, IsFill, IsTable, IsScript, IsGraph, IsGraphText, IsWellFormed, AreNumbers, code_unlined, text_unlined, fill_unlined, table_unlined, script_unlined, unlined, ReadsBack}
 use Rattle.job_text.proofs.Leads.{Leads, leads_none, leads_then, leads_content, entry_content, IsOutside, Ready}
 use Rattle.job_text.proofs.Heads.{header_leads, shape_leads, settings_lead, headed_draft, shaped_draft, settled, SettingsFit}
-use Rattle.job_text.proofs.Many.{Kept, One, All as Read, many}
+use Rattle.job_text.proofs.Many.{All as Read, many}
 use Rattle.job_text.proofs.Entries.{put_fills, fills_kept, one_fill, put_script, script_kept, one_script, nothing_named, all_allowed}
 use Rattle.job_text.proofs.Inside.{text_leads, lines_of-unbroken, graph_end_leads, with_text}
 use Rattle.job_text.proofs.Whole.{kept_text, owners_of, put_codes, codes_kept, one_code, put_asms, asms_kept, one_asm, put_tables, tables_kept, one_table}

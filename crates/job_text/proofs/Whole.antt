@@ -1,40 +1,34 @@
 -- Sections and whole jobs, as they are printed, are read again.
-use Rattle.std.proofs.Common.{◌≡◌, ◌⊎◌, ℕ, ◌+◌, ◌-◌, ◌*◌, ◌^◌, ◌<◌, ◌≤◌, zero, suc, Bool, true, false, eqb, List, [], ◌∷◌, ◌++◌, Option, Some, None, length, map, flat_map, codes, refl, sym, ap, subst, ◌∙◌, ⊎_elim, inl, inr, arith, append-nil, append_assoc}
-use Rattle.std.specs.declared.result.Result.{Result}
-use Rattle.std.specs.declared.result.Result.TheVariants.{Ok, Err}
+use Rattle.std.proofs.Common.{◌≡◌, ℕ, ◌+◌, ◌<◌, ◌≤◌, Bool, true, false, eqb, List, [], ◌∷◌, ◌++◌, Some, None, length, flat_map, codes, refl, sym, ap, subst, ⊎_elim, arith}
+use Rattle.std.specs.declared.result.Result.TheVariants.{Ok}
 use Rattle.std.specs.Fmt.{decimal}
 use Rattle.std.specs.Str.{bytes_eq}
 use Rattle.std.specs.Str.Parse.{AllDigits}
 use Rattle.std.specs.Char.{digit_value}
-use Rattle.std.specs.List.{AllByRecursion}
-use Rattle.std.specs.Option.{is_some, option_and_then}
-use Rattle.std.proofs.lemmas.Bool.{cases_Bool, and_left}
+use Rattle.std.proofs.lemmas.Bool.{cases_Bool}
 use Rattle.std.proofs.lemmas.Bool.Decides.{nat_tests}
 use Rattle.std.proofs.lemmas.Fmt.{decimal_is_IsNumeral}
 use Rattle.tn_text.specs.Lines.{lines_of}
-use Rattle.tn_text.specs.Words.{words_of}
-use Rattle.job_text.specs.declared.job.JobKind.{JobKind}
 use Rattle.job_text.specs.declared.job.Owner.{Owner}
 use Rattle.job_text.specs.declared.job.Owner.TheVariants.{All, Tile}
 use Rattle.job_text.specs.declared.job.CodeSection.{CodeSection}
 use Rattle.job_text.specs.declared.job.TextSection.{TextSection}
 use Rattle.job_text.specs.declared.job.TableSection.{TableSection}
 use Rattle.job_text.specs.declared.job.BeatLine.{BeatLine}
-use Rattle.job_text.specs.declared.job.Job.{Job}
 use Rattle.job_text.specs.declared.draft.Place.{Place}
-use Rattle.job_text.specs.declared.draft.Place.TheVariants.{AtSettings, AtSections, InCode, InAsm, InTable, InGraph}
+use Rattle.job_text.specs.declared.draft.Place.TheVariants.{AtSections, InCode, InAsm, InTable}
 use Rattle.job_text.specs.declared.draft.Draft.{Draft}
 use Rattle.job_text.specs.Seen.{has, with_number}
-use Rattle.job_text.specs.Arguments.{owner_in, exactly}
-use Rattle.job_text.specs.Printed.{spaced, feed, owner_text, word_text, end_text, code_text, asm_text, beat_text, table_text, graph_text}
-use Rattle.job_text.specs.Text.{entry_line, owner_named, board_number, code_ended, asm_ended, table_ended, graph_ended}
-use Rattle.job_text.specs.WellFormed.{named_by, owner_allowed, code_allowed, asm_allowed, table_allowed, IsOwner, IsCode, IsAsm, IsTable, IsText, IsTextLine, IsGraphText, IsGraph, fed, code_unlined, text_unlined, table_unlined}
-use Rattle.job_text.proofs.Clean.{clean, IsWord, AreWords}
+use Rattle.job_text.specs.Arguments.{owner_in}
+use Rattle.job_text.specs.Printed.{spaced, feed, owner_text, word_text, end_text, code_text, asm_text, beat_text, table_text}
+use Rattle.job_text.specs.Text.{entry_line, owner_named, board_number, code_ended, asm_ended, table_ended}
+use Rattle.job_text.specs.WellFormed.{owner_allowed, code_allowed, asm_allowed, table_allowed, IsOwner, IsCode, IsAsm, IsTable, IsText, fed, code_unlined, text_unlined, table_unlined}
+use Rattle.job_text.proofs.Clean.{IsWord}
 use Rattle.job_text.proofs.Words.{decimal_word, decimal_value}
-use Rattle.job_text.proofs.Leads.{Leads, leads_then, leads_entry, leads_content, entry_content, IsOutside, Ready, spaced_one, spaced_two}
+use Rattle.job_text.proofs.Leads.{Leads, leads_then, leads_entry, Ready, spaced_one, spaced_two}
 use Rattle.job_text.proofs.Heads.{numbers_of-decimals}
 use Rattle.job_text.proofs.Many.{Kept, One}
-use Rattle.job_text.proofs.Inside.{words_lead, beats_lead, text_leads, lines_of-unbroken, code_end_leads, asm_end_leads, table_end_leads, graph_end_leads, with_words, with_beats, with_text}
+use Rattle.job_text.proofs.Inside.{words_lead, beats_lead, text_leads, code_end_leads, asm_end_leads, table_end_leads, with_words, with_beats, with_text}
 
 -- owners
 

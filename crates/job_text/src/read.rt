@@ -1,8 +1,9 @@
 //! Reading a job.
 
-ghost use Rattle.std.specs.Prelude.{◌≡◌, ◌-◌, ◌<◌, ◌^◌, length};
+ghost use Rattle.std.specs.Prelude.{◌≡◌, ◌-◌, ◌<◌, ◌^◌, length, IfOk};
 ghost use Rattle.tn_text.specs.Lines.{lines_of};
 ghost use Rattle.job_text.specs.Text.{job_of};
+ghost use Rattle.job_text.specs.WellFormed.{IsWellFormed};
 ghost use Rattle.job_text.specs.Gives.{Gives, stop_at};
 
 use crate::draft::{Draft, LineStop};
@@ -19,8 +20,7 @@ fn stopped(line: u32, stop: LineStop) -> JobStop
     }
 }
 
-/// The job that a text says, of either version.
-pub fn read_job(alloc: Global, text: &[u8]) -> Result<Job, JobStop>
+fn read(alloc: Global, text: &[u8]) -> Result<Job, JobStop>
     requires { length (lines_of text.now) < 2 ^ 32 - 1 }
     ensures { Gives result (job_of (lines_of text.now)) }
 {
@@ -35,4 +35,15 @@ pub fn read_job(alloc: Global, text: &[u8]) -> Result<Job, JobStop>
         rest = after;
     }
     draft.finish(line)
+}
+
+/// The job that a text says, of either version.
+pub fn read_job(alloc: Global, text: &[u8]) -> Result<Job, JobStop>
+    requires { length (lines_of text.now) < 2 ^ 32 - 1 }
+    // The job that the lines say, or the first line at fault with the first kind that applies there.
+    ensures read { Gives result (job_of (lines_of text.now)) }
+    // So its printed form is read again as the same job, by `law_read_back`.
+    ensures well_formed { IfOk result (λ job. IsWellFormed job) }
+{
+    read(alloc, text)
 }

@@ -1,7 +1,7 @@
 use Rattle.std.proofs.Common.{◌≡◌, ◌+◌, length}
 use Rattle.tn_text.specs.Lines.{lines_of}
 use Rattle.job_text.specs.Text.{job_after, start}
-use Rattle.job_text.proofs.read.read_job.Given as goal
+use Rattle.job_text.proofs.read.read.Given as goal
 
 abbrev pub invariant-loop-front : goal.invariant-loop-front
 invariant-loop-front l = record {
