@@ -1,6 +1,7 @@
 -- What an instruction does to the registers, and what it asks.
-use Rattle.std.specs.Prelude.{ℕ, List, Option, Some, None, Bool, IsTrue, ◌≡◌, ◌<◌, ◌%◌, ◌==◌, ◌||◌, slice_index}
+use Rattle.std.specs.Prelude.{ℕ, List, Option, Some, None, IsTrue, ◌≡◌, ◌<◌, ◌%◌, slice_index}
 use Rattle.rv_isa.specs.declared.instr.Instr.{Instr}
+use Rattle.tn_base.specs.Effects.{is_width}
 use Rattle.tn_base.specs.Regs.{set_reg}
 use Rattle.rv_exec.specs.Rows.{Step, step_of}
 use Rattle.tn_base.specs.declared.effect.Effect.{Effect}
@@ -24,10 +25,6 @@ OnAsking (Store addr width value) P = P
 OnAsking (CsrRead rd csr) P = P
 OnAsking (CsrWrite rd csr value) P = P
 OnAsking (Trap trap) P = P
-
--- a load or a store is of 1, 2 or 4 bytes
-abbrev pub is_width : ℕ → Bool
-is_width n = n == 1 || n == 2 || n == 4
 
 -- an effect names registers and control registers that are there, widths of loads and stores, and jumps only
 -- where instructions stand

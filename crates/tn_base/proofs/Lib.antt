@@ -5,3 +5,4 @@ pub mod NamesThreads
 pub mod PartCount
 pub mod Places
 pub mod Products
+pub mod TilePlaces

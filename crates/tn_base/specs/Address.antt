@@ -27,3 +27,23 @@ above w m others i = others (i / m) * w + i % m
 abbrev pub thread_at : ShapeNumbers → ℕ → ℕ
 thread_at n =
     above 16 n.threads (above 4 n.cores (above 4 n.tiles_x (above 4 n.tiles_y (above 4 n.boards_x (λ i. i)))))
+
+-- the address of the tile that a thread is on
+abbrev pub tile_of : ℕ → ℕ
+tile_of a = a / 64 * 64
+
+-- how many threads a tile has
+abbrev pub tile_threads : ShapeNumbers → ℕ
+tile_threads n = n.cores * n.threads
+
+-- a thread's place among those of its tile, by ascending address
+abbrev pub place_in_tile : ShapeNumbers → ℕ → ℕ
+place_in_tile n a = a / 16 % 4 * n.threads + a % 16
+
+-- the address of the thread at a place of a tile
+abbrev pub in_tile : ShapeNumbers → ℕ → ℕ → ℕ
+in_tile n tile k = tile + k / n.threads * 16 + k % n.threads
+
+-- a tile's place among those of the machine, by ascending address
+abbrev pub tile_place : ShapeNumbers → ℕ → ℕ
+tile_place n a = ((a / 4096 % 4 * n.boards_x + a / 1024 % 4) * n.tiles_y + a / 256 % 4) * n.tiles_x + a / 64 % 4

@@ -1,7 +1,10 @@
 pub mod Address
 pub mod Bytes
+pub mod Does
+pub mod Effects
 pub mod Mask
 pub mod Message
 pub mod Parts
+pub mod Ports
 pub mod Regs
 pub mod Shape

@@ -1,10 +1,11 @@
 //! Which threads and tiles a machine has, and their order.
 
-ghost use Rattle.std.specs.Prelude.{◌≡◌, ◌<◌, ◌≤◌, ◌/◌, ◌%◌};
-ghost use Rattle.tn_base.specs.Address.{has_thread, has_tile, names_tile, thread_at};
+ghost use Rattle.std.specs.Prelude.{◌≡◌, ◌<◌, ◌≤◌, ◌/◌, ◌%◌, IsTrue};
+ghost use Rattle.tn_base.specs.Address.{has_thread, has_tile, in_tile, names_tile, place_in_tile, thread_at, tile_of, tile_place, tile_threads};
+ghost use Rattle.tn_base.specs.Parts.{tile_part};
 ghost use Rattle.tn_base.specs.Shape.{thread_count, WithinLimits};
 
-use crate::ids::{ThreadId, TileId};
+use crate::ids::{PartId, ThreadId, TileId};
 use crate::shape::{Shape, ShapeNumbers};
 
 impl Shape {
@@ -39,6 +40,49 @@ impl Shape {
         ThreadId((tile * 4 + core) * 16 + thread)
     }
 
+    /// How many threads each tile has.
+    #[inline(always)]
+    pub fn tile_threads(&self) -> u32
+        ensures value { result ≡ tile_threads self.now }
+        ensures few { result ≤ 64 }
+    {
+        let n = self.numbers();
+        n.cores * n.threads
+    }
+
+    /// The thread's place among those of its tile, by ascending address.
+    #[inline(always)]
+    pub fn place_in_tile(&self, t: ThreadId) -> u32
+        ensures value { result ≡ place_in_tile self.now t.0 }
+        ensures below { IsTrue (has_thread self.now t.0) → result < tile_threads self.now }
+    {
+        let n = self.numbers();
+        t.0 / 16 % 4 * n.threads + t.0 % 16
+    }
+
+    /// The thread at a place of a tile, by ascending address.
+    pub fn thread_in_tile(&self, tile: TileId, place: u32) -> ThreadId
+        requires tile { IsTrue (has_tile self.now tile.0) }
+        requires place { place < tile_threads self.now }
+        ensures address { result.0 ≡ in_tile self.now tile.0 place }
+        ensures there { IsTrue (has_thread self.now result.0) }
+    {
+        let n = self.numbers();
+        ThreadId(tile.0 + place / n.threads * 16 + place % n.threads)
+    }
+
+    /// The part of a tile.
+    #[inline(always)]
+    pub fn tile_part(&self, tile: TileId) -> PartId
+        requires { IsTrue (has_tile self.now tile.0) }
+        ensures { result.0 ≡ tile_part (tile_place self.now tile.0) }
+    {
+        let n = self.numbers();
+        let board = tile.0 / 4096 % 4 * n.boards_x + tile.0 / 1024 % 4;
+        let row = board * n.tiles_y + tile.0 / 256 % 4;
+        PartId(1 + (row * n.tiles_x + tile.0 / 64 % 4))
+    }
+
     /// The machine's numbers, of which each is within its limits.
     fn limited(&self) -> ShapeNumbers
         ensures value { result ≡ self.now }
@@ -58,6 +102,16 @@ impl Shape {
             && address / 256 % 4 < n.tiles_y
             && address / 1024 % 4 < n.boards_x
             && address / 4096 % 4 < n.boards_y
+    }
+}
+
+impl ThreadId {
+    /// The tile that the thread is on.
+    #[inline(always)]
+    pub fn tile(self) -> TileId
+        ensures { result.0 ≡ tile_of self.0 }
+    {
+        TileId(self.0 / 64 * 64)
     }
 }
 

@@ -13,8 +13,10 @@ pub mod laws;
 mod links;
 pub mod mask;
 pub mod message;
+pub mod name;
 pub mod op;
 pub mod part;
+pub mod port;
 pub mod regs;
 pub mod shape;
 #[cfg(test)]

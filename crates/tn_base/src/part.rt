@@ -8,20 +8,6 @@ use crate::ids::{Board, PartId, TileId};
 use crate::links::Links;
 use crate::shape::Shape;
 
-/// The ways out of a tile or a router: the four neighbours, a tile's router, a router's tile, the host,
-/// and none, since the receivers are here.
-#[derive(Clone, Copy, PartialEq, Eq, PartialOrd, Ord, Debug)]
-pub enum Port {
-    East,
-    West,
-    South,
-    North,
-    Up,
-    Down,
-    HostPort,
-    Here,
-}
-
 /// What a part is.
 #[derive(Clone, Copy, PartialEq, Eq, Debug)]
 pub enum Kind {

@@ -148,6 +148,7 @@ impl Shape {
     }
 
     /// The numbers that the machine is made of.
+    #[inline(always)]
     pub fn numbers(&self) -> ShapeNumbers
         ensures value { result ≡ self.now }
         ensures limits { WithinLimits self.now }

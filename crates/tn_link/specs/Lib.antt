@@ -1,3 +1,2 @@
-pub mod Does
 pub mod LinkRows
 pub mod LinkView

@@ -1,7 +1,7 @@
 //! What every link does.
 
 ghost use Rattle.std.specs.Prelude.{◌≡◌, ◌≤◌, ◌↔◌, IfOk, IsTrue, is_ok, is_some, length, option_copied, slice_get};
-ghost use Rattle.tn_link.specs.Does.{Does};
+ghost use Rattle.tn_base.specs.Does.{Does};
 ghost use Rattle.tn_link.specs.LinkView.{LinkView};
 ghost use Rattle.tn_link.specs.LinkRows.{front_of, put_in, take_from};
 

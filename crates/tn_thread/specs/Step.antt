@@ -19,7 +19,8 @@ use Rattle.tn_thread.specs.declared.register.Register.TheVariants as register
 use Rattle.tn_thread.specs.declared.state.ThreadState.{ThreadState}
 use Rattle.tn_thread.specs.declared.state.ThreadState.TheVariants as state
 use Rattle.tn_thread.specs.declared.thread.Thread.{Thread}
-use Rattle.tn_thread.specs.Memory.{is_width, value_at, written, extended}
+use Rattle.tn_base.specs.Effects.{is_width}
+use Rattle.tn_thread.specs.Memory.{value_at, written, extended}
 use Rattle.tn_thread.specs.Registers.{is_open, may_write, register_of}
 use Rattle.tn_thread.specs.Sight.{Sight}
 

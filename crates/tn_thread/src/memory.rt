@@ -1,7 +1,8 @@
 //! The bytes that a thread has of its own: private memory and the send slot.
 
 ghost use Rattle.std.specs.Prelude.{◌≡◌, ◌≤◌, ◌<◌, ◌↔◌, ◌+◌, ◌-◌, ◌*◌, ◌/◌, ◌%◌, ◌++◌, ◌==◌, ◌||◌, IfOk, IsTrue, length, replicate, slice_index, take, drop};
-ghost use Rattle.tn_thread.specs.Memory.{is_width, value_at, written, Outgoing};
+ghost use Rattle.tn_base.specs.Effects.{is_width};
+ghost use Rattle.tn_thread.specs.Memory.{value_at, written, Outgoing};
 
 use std::alloc::{AllocError, Global};
 use std::marker::Model;

@@ -2,7 +2,8 @@
 
 ghost use Rattle.std.specs.Prelude.{◌≡◌, ◌≤◌, ◌<◌, ◌+◌, ◌*◌, ◌^◌, ◌≢◌, IsTrue};
 ghost use Rattle.tn_thread.specs.Fits.{StepFits};
-ghost use Rattle.tn_thread.specs.Memory.{extended, is_width, sign_filled, value_at};
+ghost use Rattle.tn_base.specs.Effects.{is_width};
+ghost use Rattle.tn_thread.specs.Memory.{extended, sign_filled, value_at};
 ghost use Rattle.tn_thread.specs.Registers.{register_of};
 ghost use Rattle.tn_thread.specs.Step.{FitsStep, IsWithin, Stepped, answered, completed, dest_of, freed, got, is_idle, loaded, place_of, read_by, resumed, runnable, sent, stepped, stored, trapped, went, went_to, write_by, write_row};
 

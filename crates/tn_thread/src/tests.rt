@@ -1,7 +1,7 @@
 //! Steps of a thread, with what it sees of its tile set by hand: each kind of step once, and traps.
 
 ghost use Rattle.std.specs.Prelude.{◌==◌, IsTrue, Some, None, if◌then◌else◌};
-ghost use Rattle.tn_thread.specs.Memory.{is_width};
+ghost use Rattle.tn_base.specs.Effects.{is_width};
 ghost use Rattle.tn_thread.specs.Step.{FitsStep};
 
 use crate::state::{ThreadState, WaitSet};

@@ -1,6 +1,6 @@
 //! The addresses of small machines, as the tables of the fields give them.
 
-use crate::ids::{ThreadId, TileId};
+use crate::ids::{PartId, ThreadId, TileId};
 use crate::shape::{Shape, ShapeNumbers};
 use std::test::Fail;
 
@@ -62,5 +62,30 @@ fn digits_that_are_not_full(rt: HostRuntime) -> Result<(), Fail> {
     assert!(rt; shape.has_tile(TileId(1600)));
     assert!(rt; !shape.has_tile(TileId(1616)));
     assert!(rt; !shape.has_tile(TileId(1600 + 128)));
+    Ok(())
+}
+
+/// The part of a tile, if the machine has the tile.
+fn part(shape: &Shape, tile: u32) -> Option<PartId> {
+    if shape.has_tile(TileId(tile)) {
+        Some(shape.tile_part(TileId(tile)))
+    } else {
+        None
+    }
+}
+
+#[test]
+fn places(rt: HostRuntime) -> Result<(), Fail> {
+    let shape = Shape::of(machine((2, 1), (2, 3), 2, 3))?;
+    assert_eq!(rt; shape.tile_threads(), 6);
+    // Core 1, thread 2 is the last of the six threads of its tile.
+    assert_eq!(rt; shape.place_in_tile(ThreadId(1618)), 5);
+    assert_eq!(rt; ThreadId(1618).tile(), TileId(1600));
+    // The parts from 1 on are the tiles: six of board (0, 0), then six of board (1, 0).
+    assert_eq!(rt; part(&shape, 0), Some(PartId(1)));
+    assert_eq!(rt; part(&shape, 64), Some(PartId(2)));
+    assert_eq!(rt; part(&shape, 256), Some(PartId(3)));
+    assert_eq!(rt; part(&shape, 1024), Some(PartId(7)));
+    assert_eq!(rt; part(&shape, 1600), Some(PartId(12)));
     Ok(())
 }
