@@ -1,0 +1,6 @@
+pub mod Kept
+pub mod Receivers
+pub mod Rows
+pub mod Step
+pub mod TileView
+pub mod Turns

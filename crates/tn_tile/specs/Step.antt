@@ -1,0 +1,122 @@
+-- One step of a thread of a tile.
+use Rattle.std.specs.Prelude.{ℕ, zero, suc, ◌+◌, ◌/◌, ◌&&◌, Bool, List, [], length, Option, Some, None, is_none, nat_lt, slice_get, slice_index_or, slice_set, replicate, false, if◌then◌else◌}
+use Rattle.rv_isa.specs.declared.instr.Instr.{Instr}
+use Rattle.rv_exec.specs.Exec.{regs_after, step_at}
+use Rattle.tn_base.specs.declared.effect.Effect.{Effect}
+use Rattle.tn_base.specs.declared.effect.Effect.TheVariants as effect
+use Rattle.tn_base.specs.declared.event.Trap.{Trap}
+use Rattle.tn_base.specs.declared.event.Trap.TheVariants as trap
+use Rattle.tn_base.specs.declared.ids.ThreadId.{ThreadId}
+use Rattle.tn_base.specs.declared.message.Packet.{Packet}
+use Rattle.tn_base.specs.declared.op.Op.{Op}
+use Rattle.tn_base.specs.declared.op.Op.TheVariants as op
+use Rattle.tn_slots.specs.Pool.{freed, held_by, key_for, left, queue_at, taken}
+use Rattle.tn_slots.specs.Queues.{first_of}
+use Rattle.tn_thread.specs.declared.state.ThreadState.{ThreadState}
+use Rattle.tn_thread.specs.declared.state.ThreadState.TheVariants as state
+use Rattle.tn_thread.specs.declared.thread.Thread.{Thread}
+use Rattle.tn_thread.specs.Sight.{Sight}
+use Rattle.tn_thread.specs.Step.{Stepped, runnable, turned}
+use Rattle.tn_tile.specs.TileView.{TileView}
+
+-- a thread with what its instruction writes to the registers, and the instruction's effect
+pub record Fetched : Type 0 where
+  pub thread : Thread
+  pub effect : Effect
+
+abbrev pub executed : Instr → Thread → Fetched
+executed i t =
+    let s = step_at i t.pc t.regs in
+    record { thread = record t { regs = regs_after s.written i.rd t.regs }; effect = s.effect }
+
+-- what stands at the pc: nothing, a word that is no instruction, or an instruction
+abbrev pub fetched_at : Option (Option Instr) → Thread → Fetched
+fetched_at None t = record { thread = t; effect = effect.Trap trap.BadFetch }
+fetched_at (Some None) t = record { thread = t; effect = effect.Trap trap.BadInstr }
+fetched_at (Some (Some i)) t = executed i t
+
+-- a thread that runs executes the instruction at its pc; one that waits or is idle executes none
+abbrev pub fetched_by : ThreadState → List (Option Instr) → Thread → Fetched
+fetched_by state.Run code t = fetched_at (slice_get code (t.pc / 4)) t
+fetched_by (state.Wait waits) code t = record { thread = t; effect = effect.Next }
+fetched_by (state.Idle vote) code t = record { thread = t; effect = effect.Next }
+fetched_by (state.Answered value) code t = record { thread = t; effect = effect.Next }
+fetched_by (state.Dead value) code t = record { thread = t; effect = effect.Next }
+fetched_by (state.Trapped why) code t = record { thread = t; effect = effect.Next }
+
+-- the next step of a thread over this code: the new thread, and what it asks of its tile
+abbrev pub next_step : List (Option Instr) → Sight → Thread → Stepped
+next_step code seen t = let f = fetched_by t.state code t in turned f.effect seen f.thread
+
+-- what stands past the last thread
+abbrev pub no_thread : Thread
+no_thread = record {
+  id = record { 0 = 0 };
+  shape = record { version = 0; boards_x = 0; boards_y = 0; tiles_x = 0; tiles_y = 0; cores = 0; threads = 0; slots = 0; link = 0; mem = 0; fuel = 0; turn = 0 };
+  firmware = false;
+  state = state.Dead 0;
+  pc = 0;
+  regs = replicate 32 0;
+  steps = 0;
+  sends = 0;
+  given = 0;
+  answer_to = 0;
+  dest = 0;
+  mask_low = 0;
+  mask_high = 0;
+  mem = [];
+  out = record { bytes = []; last = 0 };
+}
+
+-- the thread at a place of the tile, and the packet that it sent and that is not delivered yet
+abbrev pub thread_at : TileView → ℕ → Thread
+thread_at v k = slice_index_or v.threads k no_thread
+
+abbrev pub pending_at : TileView → ℕ → Option Packet
+pending_at v k = slice_index_or v.pending k None
+
+-- what the thread at a place sees of its tile
+abbrev pub sight_at : TileView → ℕ → Sight
+sight_at v k = record {
+  can_send = is_none (pending_at v k);
+  first = first_of (queue_at v.pool k);
+  key = key_for v.pool k;
+  held = held_by v.pool k;
+}
+
+abbrev pub step_at_place : ℕ → TileView → Stepped
+step_at_place k v = next_step v.code (sight_at v k) (thread_at v k)
+
+-- the first thread that trapped stays noted
+abbrev pub noted : ThreadId → Trap → Option (ThreadId × Trap) → Option (ThreadId × Trap)
+noted id why None = Some (id, why)
+noted id why (Some first) = Some first
+
+-- the tile after what the thread at a place, which was this one, asked of it. A send becomes a packet with the thread's
+-- send number; a thread that ends gives up what it holds, and the letters of its queue are dropped
+abbrev pub acted : ℕ → Thread → Op → TileView → TileView
+acted k t op.None v = v
+acted k t (op.Send to bytes) v = record v { pending = slice_set v.pending k (Some (record { origin = t.id.0; number = t.sends; dest = to; bytes = bytes })) }
+acted k t op.Hand v = record v { pool = taken k v.pool }
+acted k t (op.Free slot) v = record v { pool = freed k slot v.pool }
+acted k t (op.Idle vote) v = v
+acted k t (op.Kill value) v = record v { pool = left k v.pool; dropped = v.dropped + length (queue_at v.pool k) }
+acted k t (op.Trap why) v = record v { ended = noted t.id why v.ended }
+
+abbrev pub with_thread : ℕ → Thread → TileView → TileView
+with_thread k t v = record v { threads = slice_set v.threads k t }
+
+-- the tile after one step of the thread at a place
+abbrev pub stepped : ℕ → TileView → TileView
+stepped k v =
+    let s = step_at_place k v in
+    acted k (thread_at v k) s.op (with_thread k s.thread v)
+
+-- the thread at a place can make a step: it is runnable and has steps left
+abbrev pub can_step : ℕ → TileView → Bool
+can_step k v = runnable (sight_at v k) (thread_at v k).state && nat_lt (thread_at v k).steps v.shape.fuel
+
+-- the tile after this many steps of the thread at a place, where it can make them all
+unfoldable pub steps_of : ℕ → ℕ → TileView → Option TileView
+steps_of k zero v = Some v
+steps_of k (suc n) v = if can_step k v then steps_of k n (stepped k v) else None

@@ -1,0 +1,60 @@
+//! The packets that wait for a way out of a tile.
+
+ghost use Rattle.std.specs.Prelude.{◌≡◌, option_copied};
+ghost use Rattle.tn_tile.specs.Rows.{buffer_at, with_buffer};
+
+use tn_base::message::Packet;
+use tn_base::port::Port;
+
+/// For each way out of a tile the packet that waits there.
+#[derive(Drop)]
+pub struct Buffers {
+    pub(crate) east: Option<Packet>,
+    pub(crate) west: Option<Packet>,
+    pub(crate) south: Option<Packet>,
+    pub(crate) north: Option<Packet>,
+    pub(crate) up: Option<Packet>,
+}
+
+impl Buffers {
+    /// No packet waits.
+    pub(crate) fn new() -> Buffers
+        ensures { result ≡ record { east = None; west = None; south = None; north = None; up = None } }
+    {
+        Buffers {
+            east: None,
+            west: None,
+            south: None,
+            north: None,
+            up: None,
+        }
+    }
+
+    /// The packet that waits for a way out; a tile has no way down, to the host or to itself.
+    pub(crate) fn get(&self, way: Port) -> Option<&Packet>
+        ensures { option_copied result ≡ buffer_at way self.now }
+    {
+        match way {
+            Port::East => self.east.as_ref(),
+            Port::West => self.west.as_ref(),
+            Port::South => self.south.as_ref(),
+            Port::North => self.north.as_ref(),
+            Port::Up => self.up.as_ref(),
+            Port::Down | Port::HostPort | Port::Here => None,
+        }
+    }
+
+    /// Puts a packet, or none, where one waits for a way out.
+    pub(crate) fn set(&mut self, way: Port, packet: Option<Packet>)
+        ensures { self.new ≡ with_buffer way packet self.old }
+    {
+        match way {
+            Port::East => self.east = packet,
+            Port::West => self.west = packet,
+            Port::South => self.south = packet,
+            Port::North => self.north = packet,
+            Port::Up => self.up = packet,
+            Port::Down | Port::HostPort | Port::Here => {}
+        }
+    }
+}

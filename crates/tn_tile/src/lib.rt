@@ -1,0 +1,14 @@
+//! A tile: threads over one code, the pool of their message slots, and the packets that they sent.
+//!
+//! A thread's step is `next_step` of `specs/Step.antt`: its instruction, and what it asks of the tile. What each
+//! event makes of a tile stands in `specs/Rows.antt`. Read `Tile::turn` and `Tile::deliver` first.
+#![tactic(auto)]
+
+pub mod buffers;
+mod deliver;
+mod receivers;
+mod sight;
+mod step;
+#[cfg(test)]
+mod tests;
+pub mod tile;
