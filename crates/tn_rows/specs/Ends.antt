@@ -1,0 +1,64 @@
+-- How runs end.
+use Rattle.std.specs.Prelude.{ℕ, ◌≡◌, ◌==◌, ◌&&◌, ◌||◌, Bool, true, false, not, List, [], ◌∷◌, Option, Some, None, is_none, MatchOption, option_and_then, slice_get, if◌then◌else◌}
+use Rattle.std.specs.List.{list_any, list_all}
+use Rattle.tn_base.specs.declared.event.Event.{Event}
+use Rattle.tn_base.specs.declared.event.Event.TheVariants as event
+use Rattle.tn_base.specs.declared.event.Outcome.{Outcome}
+use Rattle.tn_base.specs.declared.event.Outcome.TheVariants as outcome
+use Rattle.tn_base.specs.declared.ids.ThreadId.{ThreadId}
+use Rattle.tn_base.specs.Address.{place_in_tile}
+use Rattle.tn_rows.specs.Events.{part_of, Rests}
+use Rattle.tn_rows.specs.PartView.{PartView, TileV, AbsentV}
+use Rattle.tn_rows.specs.WorldView.{WorldView}
+use Rattle.tn_thread.specs.declared.state.ThreadState.{ThreadState}
+use Rattle.tn_thread.specs.declared.state.ThreadState.TheVariants as state
+use Rattle.tn_thread.specs.declared.thread.Thread.{Thread}
+use Rattle.tn_tile.specs.Still.{has_live, is_still}
+use Rattle.tn_tile.specs.Step.{thread_at}
+
+abbrev pub spent_by : ThreadId → Bool → Option Outcome
+spent_by t used = if used then Some (outcome.Spent t) else None
+
+-- how a run ends with a turn of a thread that is now in this state: the thread trapped, or has used its fuel
+abbrev pub ended_by : ThreadId → ThreadState → Bool → Option Outcome
+ended_by t state.Run used = spent_by t used
+ended_by t (state.Wait waits) used = spent_by t used
+ended_by t (state.Idle vote) used = spent_by t used
+ended_by t (state.Answered value) used = spent_by t used
+ended_by t (state.Dead value) used = spent_by t used
+ended_by t (state.Trapped why) used = Some (outcome.Trapped t why)
+
+abbrev pub ended_with : ℕ → ThreadId → Thread → Option Outcome
+ended_with fuel t thread = ended_by t thread.state (thread.steps == fuel)
+
+abbrev pub ended_on : ThreadId → PartView → Option Outcome
+ended_on t (TileV v) = ended_with v.shape.fuel t (thread_at v (place_in_tile v.shape t.0))
+ended_on t AbsentV = None
+
+-- how a run ends with an event after which the machine is this one, where the event is final
+abbrev pub final_of : Event → WorldView → Option Outcome
+final_of (event.Turn t n) w = option_and_then (ended_on t) (option_and_then (slice_get w.parts) (part_of w.shape t))
+final_of _ w = None
+
+abbrev pub last_of : List Event → Option Event
+last_of [] = None
+last_of (e ∷ []) = Some e
+last_of (e ∷ f ∷ es) = last_of (f ∷ es)
+
+-- how a run ends with its last event, where that is final
+abbrev pub final_after : Option Event → WorldView → Option Outcome
+final_after None w = None
+final_after (Some e) w = final_of e w
+
+-- all threads of a part ended, and no message stands there
+abbrev pub is_over : PartView → Bool
+is_over (TileV v) = is_still v && not (has_live v)
+is_over AbsentV = true
+
+-- how a run ends in which nothing more can happen: all threads ended and no message stands anywhere, or not
+abbrev pub rest_outcome : WorldView → Outcome
+rest_outcome w = if list_all is_over w.parts then outcome.Done else outcome.Jammed
+
+-- the outcome of a run: that of its last event where it is final, else nothing more can happen
+abbrev pub IsOutcome : List Event → WorldView → Outcome → Type 0
+IsOutcome history end o = MatchOption (final_after (last_of history) end) (Rests end × (o ≡ rest_outcome end)) (λ f. o ≡ f)

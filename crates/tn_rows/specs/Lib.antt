@@ -1,0 +1,5 @@
+pub mod Ends
+pub mod Events
+pub mod PartView
+pub mod Runs
+pub mod WorldView

@@ -1,0 +1,28 @@
+-- Walks and runs: lists of events that are enabled in turn.
+use Rattle.std.specs.Prelude.{ℕ, ◌≡◌, ◌≢◌, ◌<◌, List, [], ◌∷◌, Option, Some, None}
+use Rattle.tn_base.specs.declared.event.Event.{Event}
+use Rattle.tn_base.specs.declared.event.Event.TheVariants as event
+use Rattle.tn_rows.specs.Ends.{final_of}
+use Rattle.tn_rows.specs.Events.{happened}
+use Rattle.tn_rows.specs.WorldView.{WorldView}
+
+-- each event is enabled in turn
+abbrev pub Walk : WorldView → List Event → WorldView → Type 0
+Walk start [] end = start ≡ end
+Walk start (e ∷ es) end = (mid : WorldView) × (happened e start ≡ Some mid) × Walk mid es end
+
+-- a walk in which no event but the last is final
+abbrev pub Run : WorldView → List Event → WorldView → Type 0
+Run start [] end = start ≡ end
+Run start (e ∷ es) end = (mid : WorldView) × (happened e start ≡ Some mid) × (es ≢ [] → final_of e mid ≡ None) × Run mid es end
+
+-- a turn could not have been longer
+abbrev pub IsLongest : Event → WorldView → Type 0
+IsLongest (event.Turn t n) w = (m : ℕ) → n < m → happened (event.Turn t m) w ≡ None
+IsLongest _ w = Unit {0}
+
+-- a run each of whose turns is the longest
+abbrev pub LongRun : WorldView → List Event → WorldView → Type 0
+LongRun start [] end = start ≡ end
+LongRun start (e ∷ es) end =
+    (mid : WorldView) × (happened e start ≡ Some mid) × IsLongest e start × (es ≢ [] → final_of e mid ≡ None) × LongRun mid es end
