@@ -5,10 +5,10 @@
 #![tactic(auto)]
 
 pub mod buffers;
-mod deliver;
+pub mod deliver;
 mod receivers;
 mod sight;
-mod step;
+pub mod step;
 #[cfg(test)]
 mod tests;
 pub mod tile;

@@ -115,6 +115,7 @@ impl Tile {
                 let _freed = self.pool.free(place, slot);
             }
             Op::Kill(_) => {
+                self.pool.kept();
                 self.dropped += u64::from(self.pool.leave(place));
                 self.dead = self.dead.with(place);
             }

@@ -1,0 +1,5 @@
+pub mod Dead
+pub mod Ends
+pub mod Shaped
+pub mod Steps
+pub mod Made
