@@ -3,3 +3,4 @@ pub mod Ends
 pub mod Shaped
 pub mod Steps
 pub mod Made
+pub mod Turns

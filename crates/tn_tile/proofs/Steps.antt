@@ -2,13 +2,29 @@
 use Rattle.std.proofs.Common.{◌≡◌, ℕ, ◌<◌, ◌≤◌, ◌+◌, zero, suc, Bool, true, false, cond, Some, None, refl, sym, subst, arith, add-suc, ◌∙◌}
 use Rattle.std.proofs.lemmas.Bool.{cond-true}
 use Rattle.std.specs.declared.option.Option.{Option}
-use Rattle.tn_tile.specs.Step.{can_step, stepped, steps_of}
+use Rattle.tn_base.specs.declared.op.Op.{Op}
+use Rattle.tn_base.specs.declared.op.Op.TheVariants as op
+use Rattle.tn_thread.specs.declared.thread.Thread.{Thread}
+use Rattle.tn_tile.specs.Step.{acted, can_step, step_at_place, stepped, steps_of, thread_at, with_thread}
 use Rattle.tn_tile.specs.TileView.{TileView}
 
 -- a choice that gave something took the first side
 pub taken : {A : Type 0} (b : Bool) (o : Option A) (x : A) → cond b o None ≡ Some x → (b ≡ true) × (o ≡ Some x)
 taken true o x e = (refl, e)
 taken false o x e = cc e
+
+acted_shape : (k : ℕ) (t : Thread) (o : Op) (v : TileView) → (acted k t o v).shape ≡ v.shape
+acted_shape k t op.None v = refl
+acted_shape k t (op.Send to bytes) v = refl
+acted_shape k t op.Hand v = refl
+acted_shape k t (op.Free slot) v = refl
+acted_shape k t (op.Idle vote) v = refl
+acted_shape k t (op.Kill value) v = refl
+acted_shape k t (op.Trap why) v = refl
+
+-- a step keeps the machine's numbers
+pub stepped_shape : (k : ℕ) (v : TileView) → (stepped k v).shape ≡ v.shape
+stepped_shape k v = acted_shape k (thread_at v k) (step_at_place k v).op (with_thread k (step_at_place k v).thread v)
 
 -- no step at all
 pub steps_none : (k : ℕ) (v : TileView) → steps_of k 0 v ≡ Some v
