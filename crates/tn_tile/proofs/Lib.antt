@@ -4,3 +4,4 @@ pub mod Shaped
 pub mod Steps
 pub mod Made
 pub mod Turns
+pub mod Packed
