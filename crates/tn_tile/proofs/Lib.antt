@@ -5,3 +5,5 @@ pub mod Steps
 pub mod Made
 pub mod Turns
 pub mod Packed
+pub mod Packets
+pub mod Fresh

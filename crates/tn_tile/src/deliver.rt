@@ -80,6 +80,7 @@ impl Tile {
         ensures row { accept_row p.now self.old ≡ Some self.new }
         ensures dropped { result ≡ self.new.dropped - self.old.dropped }
     {
+        let _numbers = self.shape.numbers();
         let before = self.dropped;
         let _taken = self.pass(p);
         self.counter -= 1;
