@@ -1,7 +1,6 @@
 -- A step ends its thread exactly where it says so.
-use Rattle.std.proofs.Common.{ℕ, ◌≡◌, ◌-◌, ◌+◌, ◌*◌, ◌%◌, ◌&&◌, Bool, true, false, not, List, refl, ap, ◌∙◌, nat_eq, Option, Some, None, is_some}
+use Rattle.std.proofs.Common.{ℕ, ◌≡◌, ◌-◌, ◌%◌, ◌&&◌, Bool, true, false, not, List, refl, ap, ◌∙◌, nat_eq, Option, Some, None, is_some}
 use Rattle.std.proofs.lemmas.Bool.{cond_both}
-use Rattle.std.specs.List.{slice_get}
 use Rattle.rv_isa.specs.declared.instr.Instr.{Instr}
 use Rattle.tn_base.specs.Message.{has_dest}
 use Rattle.tn_base.specs.declared.message.Dest.{Dest}

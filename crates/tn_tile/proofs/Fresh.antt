@@ -1,7 +1,6 @@
 -- A tile at its start.
-use Rattle.std.proofs.Common.{ℕ, ◌≡◌, ◌≤◌, ◌<◌, ◌+◌, ◌-◌, ◌++◌, false, List, [], length, get_or, refl, sym, ap, ◌∙◌, arith, length-append, replicate, IsTrue, None, MatchOption}
+use Rattle.std.proofs.Common.{ℕ, ◌≡◌, ◌+◌, ◌-◌, List, [], length, get_or, refl, sym, ap, ◌∙◌, arith, length-append, replicate, IsTrue, None}
 use Rattle.std.proofs.lemmas.List.{length-replicate}
-use Rattle.tn_base.specs.declared.message.Packet.{Packet}
 use Rattle.tn_base.specs.declared.port.Port.{Port}
 use Rattle.tn_base.specs.declared.port.Port.TheVariants as port
 use Rattle.tn_base.specs.declared.shape.ShapeNumbers.{ShapeNumbers}
@@ -9,7 +8,7 @@ use Rattle.tn_base.specs.Address.{has_tile, in_tile, tile_threads}
 use Rattle.tn_base.specs.Message.{slot_bytes}
 use Rattle.tn_slots.proofs.Lists.{replicate_each}
 use Rattle.tn_thread.specs.declared.thread.Thread.{Thread}
-use Rattle.tn_thread.specs.Step.{slot_size, started}
+use Rattle.tn_thread.specs.Step.{slot_size}
 use Rattle.tn_tile.specs.Kept.{AreStarts, IsThread, StartsAt, WellShaped, fresh_tile}
 use Rattle.tn_tile.specs.Receivers.{dead_in, is_dead}
 use Rattle.tn_tile.specs.Rows.{buffer_at}

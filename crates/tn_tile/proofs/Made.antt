@@ -1,5 +1,5 @@
 -- One step of the thread at a place, as the code makes it: what it reads of its tile, and what it leaves there.
-use Rattle.std.proofs.Common.{ℕ, ◌≡◌, ◌<◌, ◌≤◌, ◌+◌, ◌&&◌, ◌==◌, Bool, true, false, not, cond, List, [], ◌∷◌, length, get_or, set, refl, sym, ap, subst, ◌∙◌, arith, Option, Some, None, is_some, is_none, MatchResult}
+use Rattle.std.proofs.Common.{ℕ, ◌≡◌, ◌<◌, ◌≤◌, ◌==◌, Bool, true, false, not, cond, List, length, get_or, set, refl, sym, ap, subst, ◌∙◌, arith, Option, Some, None, is_some, is_none, MatchResult}
 use Rattle.std.specs.Int.{bit_at}
 use Rattle.std.specs.declared.result.Result.{Result}
 use Rattle.std.specs.declared.result.Result.TheVariants.{Ok, Err}
@@ -62,8 +62,7 @@ can_run v k p b old h w can r =
     let is = w.each k h in
     let seen = seen_is v k p b old (rw w.pending h) r in
     let same = thread_is v k p b old (rw w.threads h) r in
-    let few : (thread_at v k).steps < v.shape.fuel = ltb-true _ _ parts.1 in
-    (
+    let few : (thread_at v k).steps < v.shape.fuel = ltb-true _ _ parts.1 in (
       rw (seen, same) parts.0,
       rw (same, is.shape) few,
     )

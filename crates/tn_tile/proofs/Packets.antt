@@ -1,9 +1,9 @@
 -- Packets that are delivered, sent on, and taken from links.
-use Rattle.std.proofs.Common.{ℕ, ℤ, ◌≡◌, ◌<◌, ◌≤◌, ◌+◌, ◌-◌, ◌^◌, ◌&&◌, ◌==◌, Bool, true, false, not, cond, List, [], ◌∷◌, length, get_or, set, zero, suc, refl, sym, ap, subst, ◌∙◌, arith, ltb, Option, Some, None, is_some, is_none, option_map, MatchOption, bit_and, pos, neg_ℤ, ◌+ℤ◌, ◌-ℤ◌}
+use Rattle.std.proofs.Common.{ℕ, ℤ, ◌≡◌, ◌<◌, ◌≤◌, ◌+◌, ◌^◌, ◌==◌, Bool, true, false, cond, List, [], ◌∷◌, length, get_or, set, zero, suc, refl, sym, ap, subst, ◌∙◌, arith, ltb, Option, Some, None, is_some, is_none, option_map, MatchOption, pos, neg_ℤ, ◌+ℤ◌, ◌-ℤ◌}
 use Rattle.std.specs.Int.{w64}
 use Rattle.std.specs.Int.RustNames.{FitsSigned, count_ones}
 use Rattle.std.specs.Prelude.{int_lt}
-use Rattle.std.proofs.lemmas.Bool.{and_from, and_parts, cond_both, cond-true}
+use Rattle.std.proofs.lemmas.Bool.{and_parts, cond_both}
 use Rattle.std.proofs.lemmas.Int.{ints, to_z-of_z}
 use Rattle.std.proofs.lemmas.List.{get_or_default}
 use Rattle.std.proofs.lemmas.Nat.{and_le_r, ones-le}
@@ -14,21 +14,19 @@ use Rattle.tn_base.specs.declared.message.Dest.TheVariants as dest
 use Rattle.tn_base.specs.declared.message.Packet.{Packet}
 use Rattle.tn_base.specs.declared.port.Port.{Port}
 use Rattle.tn_base.specs.declared.port.Port.TheVariants as port
-use Rattle.tn_base.specs.declared.shape.ShapeNumbers.{ShapeNumbers}
 use Rattle.tn_base.specs.Address.{place_in_tile}
 use Rattle.tn_base.specs.Does.{Does}
 use Rattle.tn_base.specs.Message.{has_packet}
 use Rattle.tn_base.specs.Ports.{same_board, tile_port, tile_x, tile_y, to_router, to_tile, toward}
 use Rattle.tn_slots.specs.Pool.{first_free}
 use Rattle.tn_thread.specs.declared.thread.Thread.{Thread}
-use Rattle.tn_tile.specs.Kept.{IsPacket, WellShaped}
+use Rattle.tn_tile.specs.Kept.{WellShaped}
 use Rattle.tn_tile.specs.Receivers.{alive_of, dead_in, dead_of, receivers}
 use Rattle.tn_tile.specs.Rows.{accept_row, accepted, arrived, buffer_at, can_count, counted, deliver_row, delivered_from, depart_row, departed_with, is_here, offered, passed, passed_by, received, sent_on, stored, stored_at, with_buffer}
 use Rattle.tn_tile.specs.Step.{pending_at}
 use Rattle.tn_tile.specs.TileView.{TileView}
 use Rattle.tn_tile.proofs.Dead.{dead_below}
 use Rattle.tn_tile.proofs.Shaped.{FitsIn}
-use Rattle.tn_tile.proofs.Steps.{taken}
 
 -- a packet takes one of a tile's five ways out, or stays
 abbrev pub IsWay : Port → Type 0

@@ -1,6 +1,6 @@
 -- What holds of every tile holds after each change.
-use Rattle.std.proofs.Common.{ℕ, ℤ, ◌≡◌, ◌<◌, ◌≤◌, ◌+◌, ◌&&◌, Bool, true, false, List, [], ◌∷◌, length, get_or, set, map, refl, sym, ap, subst, ◌∙◌, arith, inl, inr, length-set, Option, Some, None, MatchOption, IsTrue, replicate}
-use Rattle.std.proofs.lemmas.Bool.{cases_eq, and_from, and_parts, le-leb}
+use Rattle.std.proofs.Common.{ℕ, ℤ, ◌≡◌, ◌<◌, ◌≤◌, ◌+◌, Bool, true, List, [], ◌∷◌, length, set, refl, ◌∙◌, arith, inl, inr, length-set, Option, Some, None, MatchOption}
+use Rattle.std.proofs.lemmas.Bool.{cases_eq, and_from, le-leb}
 use Rattle.std.proofs.lemmas.List.{get_or-set_same, get_or-set_other, length-map}
 use Rattle.tn_base.specs.declared.event.Trap.{Trap}
 use Rattle.tn_base.specs.declared.ids.ThreadId.{ThreadId}
@@ -11,7 +11,7 @@ use Rattle.tn_base.specs.declared.port.Port.{Port}
 use Rattle.tn_base.specs.declared.port.Port.TheVariants as port
 use Rattle.tn_base.specs.declared.shape.ShapeNumbers.{ShapeNumbers}
 use Rattle.tn_base.specs.Address.{in_tile, tile_threads}
-use Rattle.tn_base.specs.Message.{has_dest, has_packet, slot_bytes}
+use Rattle.tn_base.specs.Message.{has_dest, slot_bytes}
 use Rattle.tn_slots.specs.PoolModel.{PoolModel}
 use Rattle.tn_slots.specs.Pool.{freed, left, put_at, queue_at, taken, taken_from}
 use Rattle.tn_slots.proofs.Lists.{set_each}
@@ -24,7 +24,7 @@ use Rattle.tn_tile.specs.declared.buffers.Buffers.{Buffers}
 use Rattle.tn_tile.specs.declared.tile.Sender.{Sender}
 use Rattle.tn_tile.specs.Kept.{IsPacket, IsThread, WellShaped}
 use Rattle.tn_tile.specs.Rows.{buffer_at, with_buffer}
-use Rattle.tn_tile.specs.Step.{acted, no_thread, noted, pending_at, thread_at, with_thread}
+use Rattle.tn_tile.specs.Step.{acted, no_thread, noted, thread_at, with_thread}
 use Rattle.tn_tile.specs.TileView.{TileView}
 
 -- a pool of as many queues and slots, and of slots of one size

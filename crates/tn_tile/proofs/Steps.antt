@@ -1,5 +1,5 @@
 -- Steps in a row.
-use Rattle.std.proofs.Common.{◌≡◌, ℕ, ◌<◌, ◌≤◌, ◌+◌, zero, suc, Bool, true, false, cond, Some, None, refl, sym, subst, arith, add-suc, ◌∙◌}
+use Rattle.std.proofs.Common.{◌≡◌, ℕ, ◌<◌, ◌+◌, zero, suc, Bool, true, false, cond, Some, None, refl, sym, subst, arith, add-suc, ◌∙◌}
 use Rattle.std.proofs.lemmas.Bool.{cond-true}
 use Rattle.std.specs.declared.option.Option.{Option}
 use Rattle.tn_base.specs.declared.op.Op.{Op}

@@ -1,10 +1,10 @@
 -- Turns: the longest one, and none.
-use Rattle.std.proofs.Common.{◌≡◌, ◌≢◌, ℕ, ◌<◌, ◌≤◌, ◌&&◌, zero, suc, Bool, true, false, cond, Some, None, refl, sym, ap, ◌∙◌, arith, inl, inr, leb, ltb}
+use Rattle.std.proofs.Common.{◌≡◌, ℕ, ◌<◌, ◌≤◌, ◌&&◌, zero, suc, Bool, true, false, cond, Some, None, refl, arith, inl, inr, leb}
 use Rattle.std.specs.declared.option.Option.{Option}
-use Rattle.std.proofs.lemmas.Bool.{and_from, and_left, and_right, cases_lt, cond-false, le-leb, lt-leb}
+use Rattle.std.proofs.lemmas.Bool.{and_left, and_right, cases_lt, cond-false, le-leb, lt-leb}
 use Rattle.tn_base.specs.Address.{place_in_tile}
 use Rattle.tn_tile.specs.Rows.{can_count, is_here, turn_row}
-use Rattle.tn_tile.specs.Step.{can_step, steps_of}
+use Rattle.tn_tile.specs.Step.{steps_of}
 use Rattle.tn_tile.specs.TileView.{TileView}
 use Rattle.tn_tile.specs.Turns.{StepsUpTo}
 use Rattle.tn_tile.proofs.Steps.{steps_none, steps_stop}

@@ -49,7 +49,11 @@ impl Tile {
     pub fn offer(&self, way: Port) -> Option<&Packet>
         ensures { option_copied result ≡ offered way self.now }
     {
-        if self.held { None } else { self.transit.get(way) }
+        if self.held {
+            None
+        } else {
+            self.transit.get(way)
+        }
     }
 
     /// The packet that waits for a way out has gone to a link.

@@ -77,8 +77,7 @@ impl Tile {
             place,
             can_send: self.pending[at].is_none(),
         };
-        self.threads[at].runnable(&sight)
-            && self.threads[at].steps() < self.shape.numbers().fuel
+        self.threads[at].runnable(&sight) && self.threads[at].steps() < self.shape.numbers().fuel
     }
 
     /// One step of the thread at a place.

@@ -1,8 +1,7 @@
-use Rattle.std.proofs.Common.{◌≡◌, ap, arith, refl, ◌∙◌}
+use Rattle.std.proofs.Common.{ap, arith, refl, ◌∙◌}
 use Rattle.tn_base.specs.declared.shape.ShapeNumbers.{ShapeNumbers}
-use Rattle.tn_base.specs.Mask.{names_threads}
 use Rattle.tn_tile.specs.Receivers.{core_bits}
-use Rattle.tn_tile.proofs.Packed.{Sums, packed_below, sums}
+use Rattle.tn_tile.proofs.Packed.{packed_below, sums}
 use Rattle.tn_tile.proofs.receivers.pack.Goals as goal
 
 pub overflow_add-core_bits_of-2 : goal.overflow_add-core_bits_of-2

@@ -1,9 +1,5 @@
-use Rattle.std.proofs.Common.{ℕ, ◌≡◌, ◌<◌, ◌*◌, ◌%◌, ◌^◌, true, ap, arith, ◌∙◌, sym}
-use Rattle.std.proofs.Math.Pow.{pow-lt}
-use Rattle.tn_base.specs.Address.{has_thread, place_in_tile, tile_threads}
-use Rattle.tn_base.specs.declared.message.Dest.{Dest}
-use Rattle.tn_base.specs.declared.message.Dest.TheVariants as dest
-use Rattle.tn_base.specs.Message.{has_dest}
+use Rattle.std.proofs.Common.{◌≡◌, ◌^◌, true, ap, arith, ◌∙◌, sym}
+use Rattle.tn_base.specs.Address.{has_thread}
 use Rattle.tn_tile.specs.Receivers.{receivers}
 use Rattle.tn_tile.proofs.Packed.{few_places, one_place}
 use Rattle.tn_tile.proofs.receivers.receivers_of.Goals as goal

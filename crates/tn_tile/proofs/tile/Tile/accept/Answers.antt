@@ -1,10 +1,10 @@
-use Rattle.std.proofs.Common.{◌≡◌, ◌≤◌, ◌^◌, true, refl, ap, sym, ◌∙◌, rules, arith, length, is_some, Some, pos, neg_ℤ}
+use Rattle.std.proofs.Common.{◌≡◌, ◌≤◌, ◌^◌, true, refl, ap, sym, ◌∙◌, rules, arith, length, Some, pos, neg_ℤ}
 use Rattle.std.specs.Prelude.{int_lt}
 use Rattle.std.specs.Int.{w64}
 use Rattle.std.specs.Int.RustNames.{FitsSigned}
 use Rattle.std.proofs.lemmas.Int.{to_z-of_z}
 use Rattle.tn_base.specs.Address.{tile_threads}
-use Rattle.tn_tile.specs.Rows.{accept_row, arrived, passed}
+use Rattle.tn_tile.specs.Rows.{arrived, passed}
 use Rattle.tn_tile.specs.TileView.{TileView}
 use Rattle.tn_tile.proofs.Packed.{few_places}
 use Rattle.tn_tile.proofs.Packets.{Accepts, Counts, accept_is, accepts, did_it, fits_down, one_down, passed_counts}

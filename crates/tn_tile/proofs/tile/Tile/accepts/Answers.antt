@@ -1,4 +1,4 @@
-use Rattle.std.proofs.Common.{◌≡◌, true, ap, sym, ◌∙◌, rules, is_none}
+use Rattle.std.proofs.Common.{◌≡◌, true, ◌∙◌, rules, is_none}
 use Rattle.tn_base.specs.Message.{has_packet}
 use Rattle.tn_base.specs.Ports.{tile_port}
 use Rattle.tn_base.specs.declared.port.Port.TheVariants as port

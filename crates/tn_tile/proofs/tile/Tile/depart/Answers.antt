@@ -1,4 +1,4 @@
-use Rattle.std.proofs.Common.{◌≡◌, true, ap, sym, ◌∙◌, rules, is_some, None}
+use Rattle.std.proofs.Common.{◌≡◌, true, rules, is_some, None}
 use Rattle.std.specs.Int.{w64}
 use Rattle.std.specs.Int.RustNames.{FitsSigned}
 use Rattle.tn_tile.specs.Rows.{depart_row, with_buffer}

@@ -14,7 +14,7 @@ invariant_of-self-2 c =
       | then-alive-ne0+in-Ok w ↦
           rw (w.self-inside-is, w.in-Ok.ensures.1) (
             counts (record v { pool = put_at w.in-Ok.slot c.args.p.now.bytes w.of.result v.pool; senders = set v.senders w.in-Ok.slot (record { origin = c.args.p.now.origin; number = c.args.p.now.number }) })
-            (put_shaped v w.in-Ok.slot w.of.result c.args.p.now.bytes (record { origin = c.args.p.now.origin; number = c.args.p.now.number }) c.self.invariant.0),
+                (put_shaped v w.in-Ok.slot w.of.result c.args.p.now.bytes (record { origin = c.args.p.now.origin; number = c.args.p.now.number }) c.self.invariant.0),
             c.self.invariant.1,
           )
       | else-alive-ne0 w ↦ rw w.self-inside-is (counts v c.self.invariant.0, c.self.invariant.1)

@@ -1,4 +1,4 @@
-use Rattle.std.proofs.Common.{◌≡◌, ◌<◌, ◌≤◌, ◌⊎◌, true, false, inl, inr, refl, sym, ap, subst, ◌∙◌, arith, rules, length, Option, Some, None, is_some}
+use Rattle.std.proofs.Common.{◌≡◌, ◌<◌, ◌≤◌, true, false, inl, inr, refl, sym, ap, subst, ◌∙◌, arith, rules, length, is_some}
 use Rattle.tn_base.specs.declared.op.Op.TheVariants as op
 use Rattle.tn_base.specs.Address.{tile_threads}
 use Rattle.tn_slots.specs.Pool.{freed, queue_at}
@@ -166,4 +166,3 @@ returns-then-is_none-clause-row c =
     let first : is_some v.ended ≡ false = search rules in
     let row = trap_row v k c.thread_in_tile-then-is_none.result c.in-Trap.why c.advance.new.thread h c.self.invariant.0 first c.thread_in_tile-then-is_none.ensures.address in
     rw (← c.self.view_is) (row ∙ left.row)
-

@@ -1,9 +1,7 @@
-use Rattle.std.proofs.Common.{rules, ◌≡◌, ◌==◌, true, ap, arith, add-one}
+use Rattle.std.proofs.Common.{rules, ◌≡◌, ◌==◌, true, arith, add-one}
 use Rattle.std.proofs.lemmas.Bool.{and_parts}
-use Rattle.tn_base.specs.declared.shape.ShapeNumbers.{ShapeNumbers}
-use Rattle.tn_base.specs.Address.{has_thread, tile_of, tile_threads}
-use Rattle.tn_tile.specs.Step.{can_step, stepped}
-use Rattle.tn_tile.specs.TileView.{TileView}
+use Rattle.tn_base.specs.Address.{has_thread, tile_of}
+use Rattle.tn_tile.specs.Step.{can_step}
 use Rattle.tn_tile.proofs.Steps.{stepped_shape, steps_more, steps_none}
 use Rattle.tn_tile.proofs.tile.Tile.turn_up_to.Goals as goal
 

@@ -1,4 +1,4 @@
-use Rattle.std.proofs.Common.{◌-◌, ◌≡◌, ◌≤◌, ◌<◌, ◌+◌, ◌*◌, ◌^◌, Some}
+use Rattle.std.proofs.Common.{◌-◌, ◌≡◌, ◌≤◌, ◌<◌, ◌+◌, ◌*◌, Some}
 use Rattle.tn_base.specs.Address.{tile_threads}
 use Rattle.tn_tile.specs.Step.{steps_of}
 use Rattle.tn_tile.proofs.tile.Tile.turn_up_to.Given as goal
