@@ -1,5 +1,5 @@
 -- What holds of every tile.
-use Rattle.std.specs.Prelude.{ℕ, ◌≡◌, ◌≤◌, ◌<◌, Bool, false, IsTrue, List, [], length, map, MatchOption, pos, None, replicate, slice_index_or, ⊤}
+use Rattle.std.specs.Prelude.{ℕ, ◌≡◌, ◌≤◌, ◌<◌, false, IsTrue, List, length, map, MatchOption, pos, None, replicate, slice_index_or, ⊤}
 use Rattle.rv_isa.specs.Decode.{decode_of}
 use Rattle.tn_base.specs.declared.message.Packet.{Packet}
 use Rattle.tn_base.specs.declared.port.Port.{Port}

@@ -1,5 +1,5 @@
 -- What each event makes of a tile, where it is enabled.
-use Rattle.std.specs.Prelude.{ℕ, ℤ, pos, ◌+◌, ◌^◌, ◌==◌, ◌&&◌, ◌+ℤ◌, ◌-ℤ◌, Bool, true, false, not, List, map, Option, Some, None, is_none, option_map, count_ones, int_lt, nat_le, nat_lt, neg_ℤ, slice_set, if◌then◌else◌}
+use Rattle.std.specs.Prelude.{ℕ, pos, ◌+◌, ◌^◌, ◌==◌, ◌&&◌, ◌+ℤ◌, ◌-ℤ◌, Bool, true, false, map, Option, Some, None, is_none, option_map, count_ones, int_lt, nat_le, nat_lt, neg_ℤ, slice_set, if◌then◌else◌}
 use Rattle.tn_base.specs.declared.message.Packet.{Packet}
 use Rattle.tn_base.specs.declared.port.Port.{Port}
 use Rattle.tn_base.specs.declared.port.Port.TheVariants as port
@@ -7,8 +7,6 @@ use Rattle.tn_base.specs.Address.{has_thread, place_in_tile, tile_of}
 use Rattle.tn_base.specs.Message.{has_packet}
 use Rattle.tn_base.specs.Ports.{tile_port}
 use Rattle.tn_slots.specs.Pool.{first_free, put_at}
-use Rattle.tn_thread.specs.declared.state.ThreadState.{ThreadState}
-use Rattle.tn_thread.specs.declared.state.ThreadState.TheVariants as state
 use Rattle.tn_thread.specs.declared.thread.Thread.{Thread}
 use Rattle.tn_thread.specs.Step.{answered, is_idle}
 use Rattle.tn_tile.specs.Receivers.{alive_of, dead_of, receivers}

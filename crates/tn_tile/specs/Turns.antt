@@ -1,5 +1,5 @@
 -- What turns answer.
-use Rattle.std.specs.Prelude.{ℕ, ◌≡◌, ◌<◌, ◌≤◌, Bool, true, false, Option, Some, None}
+use Rattle.std.specs.Prelude.{ℕ, ◌≡◌, ◌<◌, ◌≤◌, Bool, true, false, Some, None}
 use Rattle.tn_tile.specs.declared.deliver.Did.{Did}
 use Rattle.tn_tile.specs.declared.deliver.Did.TheVariants as did
 use Rattle.tn_tile.specs.declared.step.Turned.{Turned}

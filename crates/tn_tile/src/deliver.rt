@@ -49,7 +49,11 @@ impl Tile {
     pub fn offer(&self, way: Port) -> Option<&Packet>
         ensures { option_copied result ≡ offered way self.now }
     {
-        if self.held { None } else { self.transit.get(way) }
+        if self.held {
+            None
+        } else {
+            self.transit.get(way)
+        }
     }
 
     /// The packet that waits for a way out has gone to a link.
@@ -80,6 +84,7 @@ impl Tile {
         ensures row { accept_row p.now self.old ≡ Some self.new }
         ensures dropped { result ≡ self.new.dropped - self.old.dropped }
     {
+        let _numbers = self.shape.numbers();
         let before = self.dropped;
         let _taken = self.pass(p);
         self.counter -= 1;

@@ -6,7 +6,6 @@
 
 pub mod buffers;
 pub mod deliver;
-mod extra;
 mod receivers;
 mod sight;
 pub mod step;

@@ -40,6 +40,7 @@ pub(crate) fn receivers_of(shape: &Shape, dest: &Dest) -> Mask
     ensures value { result ≡ receivers shape.now dest.now }
     ensures below { result < 2 ^ tile_threads shape.now }
 {
+    let _numbers = shape.numbers();
     match *dest {
         Dest::Thread(t) => Mask::of(1 << shape.place_in_tile(t)),
         Dest::Mask(_, mask) => pack(shape, mask),

@@ -77,8 +77,7 @@ impl Tile {
             place,
             can_send: self.pending[at].is_none(),
         };
-        self.threads[at].runnable(&sight)
-            && self.threads[at].steps() < self.shape.numbers().fuel
+        self.threads[at].runnable(&sight) && self.threads[at].steps() < self.shape.numbers().fuel
     }
 
     /// One step of the thread at a place.
@@ -115,6 +114,7 @@ impl Tile {
                 let _freed = self.pool.free(place, slot);
             }
             Op::Kill(_) => {
+                self.pool.kept();
                 self.dropped += u64::from(self.pool.leave(place));
                 self.dead = self.dead.with(place);
             }

@@ -1,0 +1,58 @@
+-- A tile at its start.
+use Rattle.std.proofs.Common.{ℕ, ◌≡◌, ◌+◌, ◌-◌, List, [], length, get_or, refl, sym, ap, ◌∙◌, arith, length-append, replicate, IsTrue, None}
+use Rattle.std.proofs.lemmas.List.{length-replicate}
+use Rattle.tn_base.specs.declared.port.Port.{Port}
+use Rattle.tn_base.specs.declared.port.Port.TheVariants as port
+use Rattle.tn_base.specs.declared.shape.ShapeNumbers.{ShapeNumbers}
+use Rattle.tn_base.specs.Address.{has_tile, in_tile, tile_threads}
+use Rattle.tn_base.specs.Message.{slot_bytes}
+use Rattle.tn_slots.proofs.Lists.{replicate_each}
+use Rattle.tn_thread.specs.declared.thread.Thread.{Thread}
+use Rattle.tn_thread.specs.Step.{slot_size}
+use Rattle.tn_tile.specs.Kept.{AreStarts, IsThread, StartsAt, WellShaped, fresh_tile}
+use Rattle.tn_tile.specs.Receivers.{dead_in, is_dead}
+use Rattle.tn_tile.specs.Rows.{buffer_at}
+use Rattle.tn_tile.specs.Step.{no_thread}
+use Rattle.tn_tile.proofs.Dead.{none_dead}
+use Rattle.tn_tile.proofs.Shaped.{FitsIn}
+
+start_is : (n : ShapeNumbers) (a : ℕ) (t : Thread) → StartsAt n a t → IsThread n a t
+start_is n a t s =
+    let size : length s.image + (n.mem - length s.image) ≡ n.mem = let fits = s.fits in omega arith in
+    let zeros = length-replicate {A = ℕ} (n.mem - length s.image) 0 in
+    record {
+      id = ap (λ (x : Thread). x.id) s.start;
+      shape = ap (λ (x : Thread). x.shape) s.start;
+      mem = ap (λ (x : Thread). length x.mem) s.start ∙ length-append s.image (replicate (n.mem - length s.image) 0) ∙ ap (λ k. length s.image + k) zeros ∙ size;
+      out = ap slot_size s.start ∙ length-replicate (slot_bytes n) 0;
+      steps = let none : t.steps ≡ 0 = ap (λ (x : Thread). x.steps) s.start in omega arith;
+    }
+
+nothing_waits : (n : ShapeNumbers) (way : Port) → FitsIn n (buffer_at way (record { east = None; west = None; south = None; north = None; up = None }))
+nothing_waits n port.East = tt
+nothing_waits n port.West = tt
+nothing_waits n port.South = tt
+nothing_waits n port.North = tt
+nothing_waits n port.Up = tt
+nothing_waits n port.Down = tt
+nothing_waits n port.HostPort = tt
+nothing_waits n port.Here = tt
+
+pub fresh_shaped : (n : ShapeNumbers) (tile : ℕ) (words : List ℕ) (threads : List Thread) → IsTrue (has_tile n tile) → AreStarts n tile threads → WellShaped (fresh_tile n tile words threads)
+fresh_shaped n tile words threads there starts = record {
+  tile = there;
+  threads = starts.count;
+  pending = length-replicate (tile_threads n) None;
+  queues = length-replicate (tile_threads n) [];
+  slots = length-replicate n.slots _;
+  senders = length-replicate n.slots _;
+  slot_bytes = refl;
+  each = λ k h. start_is n (in_tile n tile k) (get_or threads k no_thread) (starts.each k h);
+  sent = replicate_each (FitsIn n) (tile_threads n) None None tt tt;
+  goes_on = nothing_waits n;
+}
+
+pub none_ended : (n : ShapeNumbers) (tile : ℕ) (threads : List Thread) → AreStarts n tile threads → 0 ≡ dead_in threads
+none_ended n tile threads starts =
+    let count : length threads ≡ tile_threads n = starts.count in
+    sym (none_dead threads (λ k h. ap (λ (x : Thread). is_dead x.state) (starts.each k (rw (← count) h)).start))
