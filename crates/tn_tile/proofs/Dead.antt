@@ -1,5 +1,5 @@
 -- The set of the threads of a tile that ended, bit by bit, and how a step changes it.
-use Rattle.std.proofs.Common.{ℕ, ◌≡◌, ◌<◌, ◌≤◌, ◌+◌, ◌*◌, ◌/◌, ◌%◌, ◌^◌, Bool, true, false, cond, List, [], ◌∷◌, length, get_or, set, zero, suc, refl, sym, ap, ◌∙◌, arith, inl, inr, length-set}
+use Rattle.std.proofs.Common.{ℕ, ◌≡◌, ◌<◌, ◌≤◌, ◌+◌, ◌*◌, ◌/◌, ◌%◌, ◌^◌, Bool, true, false, cond, List, [], ◌∷◌, length, get_or, map, set, zero, suc, refl, sym, ap, ◌∙◌, arith, inl, inr, length-set}
 use Rattle.std.specs.Int.{bit_at}
 use Rattle.std.proofs.Math.Nat.{pow-suc, pow-le-pow_right}
 use Rattle.std.proofs.lemmas.Bool.{cases_eq}
@@ -8,9 +8,11 @@ use Rattle.std.proofs.lemmas.List.{get_or-set_same, get_or-set_other}
 use Rattle.tn_base.specs.Mask.{with_bit}
 use Rattle.tn_base.proofs.Masks.{with_same, with_other}
 use Rattle.tn_slots.proofs.Kept.{with_below}
+use Rattle.tn_thread.specs.declared.state.ThreadState.{ThreadState}
 use Rattle.tn_thread.specs.declared.state.ThreadState.TheVariants as state
 use Rattle.tn_thread.specs.declared.thread.Thread.{Thread}
 use Rattle.tn_tile.specs.Receivers.{dead_in, is_dead}
+use Rattle.tn_tile.specs.Rows.{told}
 use Rattle.tn_tile.specs.Step.{no_thread}
 
 -- the bit of a thread in the set
@@ -69,3 +71,16 @@ none_dead (t ∷ ts) all =
     let first : is_dead t.state ≡ false = all 0 (omega arith) in
     let others : dead_in ts ≡ 0 = none_dead ts (λ k h. all (suc k) (omega arith)) in
     rw (first, others) refl
+
+-- an answer ends no thread
+told_bit : (value : ℕ) (t : Thread) (s : ThreadState) → t.state ≡ s → dead_bit (told value t) ≡ dead_bit t
+told_bit value t state.Run e = rw e refl
+told_bit value t (state.Wait waits) e = rw e refl
+told_bit value t (state.Idle vote) e = rw e refl
+told_bit value t (state.Answered before) e = rw e refl
+told_bit value t (state.Dead before) e = rw e refl
+told_bit value t (state.Trapped why) e = rw e refl
+
+pub dead_told : (ts : List Thread) (value : ℕ) → dead_in (map (told value) ts) ≡ dead_in ts
+dead_told [] value = refl
+dead_told (t ∷ ts) value = ap (λ b. b + 2 * dead_in (map (told value) ts)) (told_bit value t t.state refl) ∙ ap (λ d. dead_bit t + 2 * d) (dead_told ts value)

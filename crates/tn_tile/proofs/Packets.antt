@@ -73,8 +73,43 @@ by_way port.Down p v h away = absurd h
 by_way port.HostPort p v h away = absurd h
 by_way port.Here p v h away = absurd (away refl)
 
-pub takes_on : (p : Packet) (v : TileView) → has_packet v.shape p ≡ true → (tile_port v.tile p.dest ≡ port.Here → ⊥) → is_none (buffer_at (tile_port v.tile p.dest) v.transit) ≡ is_some (accepted p v)
-takes_on p v fits away = rw fits (by_way (tile_port v.tile p.dest) p v (is_way v.tile p.dest) away)
+pub takes_on : (p : Packet) (v : TileView) → (tile_port v.tile p.dest ≡ port.Here → ⊥) → is_none (buffer_at (tile_port v.tile p.dest) v.transit) ≡ is_some (passed p v)
+takes_on p v away = by_way (tile_port v.tile p.dest) p v (is_way v.tile p.dest) away
+
+-- whether a packet can be passed on does not hang on what is pending
+slot_room : (slot : Option ℕ) (alive : ℕ) (p : Packet) (v w : TileView) → is_some (stored_at slot alive p v) ≡ is_some (stored_at slot alive p w)
+slot_room None alive p v w = refl
+slot_room (Some s) alive p v w = refl
+
+alive_room : (b : Bool) (slot : Option ℕ) (alive : ℕ) (p : Packet) (v w : TileView) → is_some (cond b (Some v) (stored_at slot alive p v)) ≡ is_some (cond b (Some w) (stored_at slot alive p w))
+alive_room true slot alive p v w = refl
+alive_room false slot alive p v w = slot_room slot alive p v w
+
+mapped_some : {X Y : Type 0} (f : X → Y) (o : Option X) → is_some (option_map f o) ≡ is_some o
+mapped_some f None = refl
+mapped_some f (Some x) = refl
+
+received_room : (p : Packet) (v : TileView) (ps : List (Option Packet)) → is_some (received p (record v { pending = ps })) ≡ is_some (received p v)
+received_room p v ps =
+    let set = receivers v.shape p.dest in
+    let alive = alive_of v.threads set in
+    let w : TileView = record v { pending = ps } in
+    mapped_some (λ (x : TileView). record x { dropped = x.dropped + count_ones (dead_of v.threads set) }) (stored alive p w)
+    ∙ alive_room (alive == 0) (first_free v.pool) alive p w v
+    ∙ sym (mapped_some (λ (x : TileView). record x { dropped = x.dropped + count_ones (dead_of v.threads set) }) (stored alive p v))
+
+by_room : (way : Port) (p : Packet) (v : TileView) (ps : List (Option Packet)) → is_some (passed_by way p (record v { pending = ps })) ≡ is_some (passed_by way p v)
+by_room port.Here p v ps = received_room p v ps
+by_room port.East p v ps = some_if (is_none v.transit.east) _ ∙ sym (some_if (is_none v.transit.east) _)
+by_room port.West p v ps = some_if (is_none v.transit.west) _ ∙ sym (some_if (is_none v.transit.west) _)
+by_room port.South p v ps = some_if (is_none v.transit.south) _ ∙ sym (some_if (is_none v.transit.south) _)
+by_room port.North p v ps = some_if (is_none v.transit.north) _ ∙ sym (some_if (is_none v.transit.north) _)
+by_room port.Up p v ps = some_if (is_none v.transit.up) _ ∙ sym (some_if (is_none v.transit.up) _)
+by_room port.Down p v ps = refl
+by_room port.HostPort p v ps = refl
+
+pub passed_room : (p : Packet) (v : TileView) (ps : List (Option Packet)) → is_some (passed p (record v { pending = ps })) ≡ is_some (passed p v)
+passed_room p v ps = by_room (tile_port v.tile p.dest) p v ps
 
 -- what a packet that is passed on leaves as it is
 pub record Counts (most : ℕ) (old new : TileView) : Type 0 where

@@ -1,7 +1,7 @@
 -- What holds of every tile holds after each change.
-use Rattle.std.proofs.Common.{ℕ, ℤ, ◌≡◌, ◌<◌, ◌≤◌, ◌+◌, Bool, true, List, [], ◌∷◌, length, set, refl, ◌∙◌, arith, inl, inr, length-set, Option, Some, None, MatchOption}
-use Rattle.std.proofs.lemmas.Bool.{cases_eq, and_from, le-leb}
-use Rattle.std.proofs.lemmas.List.{get_or-set_same, get_or-set_other, length-map}
+use Rattle.std.proofs.Common.{ℕ, ℤ, ◌≡◌, ◌<◌, ◌≤◌, ◌+◌, Bool, true, List, [], ◌∷◌, length, map, set, refl, ◌∙◌, arith, inl, inr, length-set, Option, Some, None, MatchOption}
+use Rattle.std.proofs.lemmas.Bool.{cases_eq, and_from, cond_both, le-leb}
+use Rattle.std.proofs.lemmas.List.{get_or-map, get_or-set_same, get_or-set_other, length-map}
 use Rattle.tn_base.specs.declared.event.Trap.{Trap}
 use Rattle.tn_base.specs.declared.ids.ThreadId.{ThreadId}
 use Rattle.tn_base.specs.declared.message.Packet.{Packet}
@@ -19,11 +19,11 @@ use Rattle.tn_slots.proofs.Owed.{length-appended}
 use Rattle.tn_thread.specs.declared.thread.Thread.{Thread}
 use Rattle.tn_thread.specs.Fits.{OpFits, StepFits}
 use Rattle.tn_thread.specs.Sight.{Sight}
-use Rattle.tn_thread.specs.Step.{Stepped}
+use Rattle.tn_thread.specs.Step.{Stepped, is_idle}
 use Rattle.tn_tile.specs.declared.buffers.Buffers.{Buffers}
 use Rattle.tn_tile.specs.declared.tile.Sender.{Sender}
 use Rattle.tn_tile.specs.Kept.{IsPacket, IsThread, WellShaped}
-use Rattle.tn_tile.specs.Rows.{buffer_at, with_buffer}
+use Rattle.tn_tile.specs.Rows.{buffer_at, told, with_buffer}
 use Rattle.tn_tile.specs.Step.{acted, no_thread, noted, thread_at, with_thread}
 use Rattle.tn_tile.specs.TileView.{TileView}
 
@@ -180,3 +180,26 @@ step_shaped v k seen new o h w few fits =
     let is = w.each k h in
     acted_shaped (with_thread k new v) k seen (thread_at v k) new o is.shape is.out fits.op
     (thread_shaped v k new h (is_thread v.shape (in_tile v.shape v.tile k) seen (thread_at v k) (record { thread = new; op = o }) is few fits) w)
+
+told_thread : (n : ShapeNumbers) (a value : ℕ) (t : Thread) → IsThread n a t → IsThread n a (told value t)
+told_thread n a value t is =
+    cond_both (is_idle t.state) _ _ (IsThread n a)
+    (λ _. record { id = is.id; shape = is.shape; mem = is.mem; out = is.out; steps = is.steps })
+    (λ _. is)
+
+-- the idle threads have their answer
+pub told_shaped : (v : TileView) (value : ℕ) → WellShaped v → WellShaped (record v { threads = map (told value) v.threads })
+told_shaped v value w = record {
+  tile = w.tile;
+  threads = length-map v.threads (told value) ∙ w.threads;
+  pending = w.pending;
+  queues = w.queues;
+  slots = w.slots;
+  senders = w.senders;
+  slot_bytes = w.slot_bytes;
+  each = λ k h.
+      let within : k < length v.threads = rw w.threads h in
+      rw (get_or-map (told value) v.threads k no_thread no_thread within) (told_thread v.shape (in_tile v.shape v.tile k) value (thread_at v k) (w.each k h));
+  sent = w.sent;
+  goes_on = w.goes_on;
+}

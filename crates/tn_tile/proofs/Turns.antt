@@ -1,13 +1,17 @@
 -- Turns: the longest one, and none.
-use Rattle.std.proofs.Common.{◌≡◌, ℕ, ◌<◌, ◌≤◌, ◌&&◌, zero, suc, Bool, true, false, cond, Some, None, refl, arith, inl, inr, leb}
+use Rattle.std.proofs.Common.{◌≡◌, ℕ, ◌<◌, ◌≤◌, ◌&&◌, zero, suc, Bool, true, false, cond, Some, None, is_some, refl, arith, inl, inr, leb}
 use Rattle.std.specs.declared.option.Option.{Option}
 use Rattle.std.proofs.lemmas.Bool.{and_left, and_right, cases_lt, cond-false, le-leb, lt-leb}
 use Rattle.tn_base.specs.Address.{place_in_tile}
 use Rattle.tn_tile.specs.Rows.{can_count, is_here, turn_row}
-use Rattle.tn_tile.specs.Step.{steps_of}
+use Rattle.tn_tile.specs.Step.{can_step, stepped, steps_of}
 use Rattle.tn_tile.specs.TileView.{TileView}
 use Rattle.tn_tile.specs.Turns.{StepsUpTo}
 use Rattle.tn_tile.proofs.Steps.{steps_none, steps_stop}
+
+cond_some : {X : Type 0} (b : Bool) (x : X) → is_some (cond b (Some x) None) ≡ b
+cond_some true x = refl
+cond_some false x = refl
 
 none_either : {X : Type 0} (b : Bool) (o : Option X) → o ≡ None → cond b o None ≡ None
 none_either true o e = e
@@ -46,3 +50,11 @@ same_tile k n most v w e made =
     let none : steps_of k 0 v ≡ Some w = rw e at made.steps in
     let self : steps_of k 0 v ≡ Some v = steps_none k v in
     cc
+
+-- a thread can make a turn exactly where it can make a step
+one_step : (k : ℕ) (v : TileView) → is_some (steps_of k 1 v) ≡ can_step k v
+unfolding steps_of
+one_step k v = cond_some (can_step k v) (stepped k v)
+
+pub one_turn : (a : ℕ) (v : TileView) → is_here a v ≡ true → can_count v ≡ true → 1 ≤ v.shape.turn → is_some (turn_row a 1 v) ≡ can_step (place_in_tile v.shape a) v
+one_turn a v here counts turn = rw (here, counts, le-leb 1 v.shape.turn turn) (one_step (place_in_tile v.shape a) v)

@@ -1,18 +1,19 @@
 -- What each event makes of a tile, where it is enabled.
-use Rattle.std.specs.Prelude.{ℕ, pos, ◌+◌, ◌^◌, ◌==◌, ◌&&◌, ◌+ℤ◌, ◌-ℤ◌, Bool, true, false, map, Option, Some, None, is_none, option_map, count_ones, int_lt, nat_le, nat_lt, neg_ℤ, slice_set, if◌then◌else◌}
+use Rattle.std.specs.Prelude.{ℕ, pos, ◌+◌, ◌^◌, ◌==◌, ◌&&◌, ◌+ℤ◌, ◌-ℤ◌, Bool, true, false, map, Option, Some, None, is_none, option_map, count_ones, int_lt, nat_le, nat_lt, neg_ℤ, slice_index_or, slice_set, if◌then◌else◌}
 use Rattle.tn_base.specs.declared.message.Packet.{Packet}
 use Rattle.tn_base.specs.declared.port.Port.{Port}
 use Rattle.tn_base.specs.declared.port.Port.TheVariants as port
 use Rattle.tn_base.specs.Address.{has_thread, place_in_tile, tile_of}
 use Rattle.tn_base.specs.Message.{has_packet}
 use Rattle.tn_base.specs.Ports.{tile_port}
-use Rattle.tn_slots.specs.Pool.{first_free, put_at}
+use Rattle.tn_slots.specs.Pool.{first_free, message_at, put_at}
 use Rattle.tn_thread.specs.declared.thread.Thread.{Thread}
 use Rattle.tn_thread.specs.Step.{answered, is_idle}
 use Rattle.tn_tile.specs.Receivers.{alive_of, dead_of, receivers}
 use Rattle.tn_tile.specs.Step.{pending_at, steps_of}
 use Rattle.tn_tile.specs.TileView.{TileView}
 use Rattle.tn_tile.specs.declared.buffers.Buffers.{Buffers}
+use Rattle.tn_tile.specs.declared.tile.Sender.{Sender}
 
 -- the thread of this address is on the tile
 abbrev pub is_here : ℕ → TileView → Bool
@@ -50,6 +51,13 @@ abbrev pub received : Packet → TileView → Option TileView
 received p v =
     let set = receivers v.shape p.dest in
     counted (count_ones (dead_of v.threads set)) (stored (alive_of v.threads set) p v)
+
+-- whose packet a slot has, and which of its packets; none where nobody is owed or holds the slot
+abbrev pub origin_of : Sender → ℕ × ℕ
+origin_of s = (s.origin, s.number)
+
+abbrev pub sender_of : ℕ → TileView → Option (ℕ × ℕ)
+sender_of s v = option_map (λ bytes. origin_of (slice_index_or v.senders s (record { origin = 0; number = 0 }))) (message_at v.pool s)
 
 -- the packet that waits for a way out of the tile, and another one in its place
 abbrev pub buffer_at : Port → Buffers → Option Packet

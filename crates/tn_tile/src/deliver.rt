@@ -8,7 +8,6 @@ ghost use Rattle.tn_tile.specs.Rows.{accept_row, accepted, can_count, deliver_ro
 ghost use Rattle.tn_tile.specs.Turns.{moved};
 
 use crate::receivers::receivers_of;
-use crate::step::MOST_DROPPED;
 use crate::tile::{Sender, Tile};
 use tn_base::ids::ThreadId;
 use tn_base::mask::Mask;
@@ -31,7 +30,7 @@ impl Tile {
         requires { IsTrue (is_here t.0 self.old) }
         ensures { Does (moved result) (deliver_row t.0 self.old) self.old self.new }
     {
-        if self.dropped >= MOST_DROPPED {
+        if !self.counts() {
             return Did::Nothing;
         }
         let at = self.shape.place_in_tile(t) as usize;
@@ -43,6 +42,17 @@ impl Tile {
         }
         self.pending[at] = Some(packet);
         Did::Nothing
+    }
+
+    /// Whether the packet that a thread sent can be delivered.
+    pub fn can_deliver(&self, t: ThreadId) -> bool
+        requires { IsTrue (is_here t.0 self.now) }
+        ensures { result ≡ is_some (deliver_row t.0 self.now) }
+    {
+        match &self.pending[self.shape.place_in_tile(t) as usize] {
+            None => false,
+            Some(packet) => self.counts() && self.has_room(packet),
+        }
     }
 
     /// The packet that waits for a way out, unless the tile is held.
@@ -69,13 +79,7 @@ impl Tile {
     pub fn accepts(&self, p: &Packet) -> bool
         ensures { result ≡ is_some (accepted p.now self.now) }
     {
-        if !self.shape.has_packet(p) {
-            return false;
-        }
-        match self.tile.port(&p.dest) {
-            Port::Here => self.alive(p).is_empty() || !self.pool.full(),
-            way => self.transit.get(way).is_none(),
-        }
+        self.shape.has_packet(p) && self.has_room(p)
     }
 
     /// Takes a packet from a link. Answers for how many dead receivers on this tile it was dropped.
@@ -90,6 +94,17 @@ impl Tile {
         self.counter -= 1;
         self.black = true;
         (self.dropped - before) as u32
+    }
+
+    /// Whether a packet can be passed on: there is a slot, or no receiver is alive, or its way out is free.
+    fn has_room(&self, p: &Packet) -> bool
+        requires { IsTrue (has_packet self.now.shape p.now) }
+        ensures { result ≡ is_some (passed p.now self.now) }
+    {
+        match self.tile.port(&p.dest) {
+            Port::Here => self.alive(p).is_empty() || !self.pool.full(),
+            way => self.transit.get(way).is_none(),
+        }
     }
 
     /// Passes a packet on: to its receivers here, or to the buffer of its way out.

@@ -5,8 +5,10 @@
 #![tactic(auto)]
 
 pub mod buffers;
+mod copy;
 pub mod deliver;
 mod receivers;
+mod rest;
 mod sight;
 pub mod step;
 #[cfg(test)]

@@ -1,10 +1,10 @@
 //! Steps and turns of threads.
 
-ghost use Rattle.std.specs.Prelude.{◌≡◌, ◌≤◌, ◌<◌, ◌+◌, ◌/◌, ◌^◌, IsTrue, slice_get};
+ghost use Rattle.std.specs.Prelude.{◌≡◌, ◌≤◌, ◌<◌, ◌+◌, ◌/◌, ◌^◌, IsTrue, is_some, slice_get};
 ghost use Rattle.tn_base.specs.Address.{place_in_tile, tile_threads};
 ghost use Rattle.tn_thread.specs.Fits.{StepFits};
 ghost use Rattle.tn_thread.specs.Step.{FitsStep, runnable};
-ghost use Rattle.tn_tile.specs.Rows.{can_count, is_here};
+ghost use Rattle.tn_tile.specs.Rows.{can_count, is_here, turn_row};
 ghost use Rattle.tn_tile.specs.Step.{can_step, fetched_at, next_step, stepped};
 ghost use Rattle.tn_tile.specs.Turns.{StepsUpTo, TurnIs};
 
@@ -30,16 +30,13 @@ pub enum Turned {
     Nothing,
 }
 
-/// Letters are dropped on a tile only as long as they can be counted.
-pub(crate) const MOST_DROPPED: u64 = 1 << 63;
-
 impl Tile {
     /// The longest turn of a thread: as many steps as it can make, up to the machine's number of steps.
     pub fn turn(&mut self, t: ThreadId) -> Turned
         requires { IsTrue (is_here t.0 self.old) }
         ensures { TurnIs result t.0 self.old self.new }
     {
-        if self.dropped >= MOST_DROPPED {
+        if !self.counts() {
             return Turned::Nothing;
         }
         let most = self.shape.numbers().turn;
@@ -47,6 +44,15 @@ impl Tile {
             0 => Turned::Nothing,
             made => Turned::Moved(made),
         }
+    }
+
+    /// Whether the thread can make a turn.
+    pub fn can_turn(&self, t: ThreadId) -> bool
+        requires { IsTrue (is_here t.0 self.now) }
+        ensures { result ≡ is_some (turn_row t.0 1 self.now) }
+    {
+        let _numbers = self.shape.numbers();
+        self.counts() && self.can_step(self.shape.place_in_tile(t))
     }
 
     /// Makes as many of `most` steps of a thread as it can, and says how many.

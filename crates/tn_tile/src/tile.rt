@@ -5,7 +5,7 @@ ghost use Rattle.rv_isa.specs.Decode.{decode_of};
 ghost use Rattle.tn_base.specs.Address.{has_tile, place_in_tile, tile_of, tile_threads};
 ghost use Rattle.tn_slots.specs.Pool.{message_at};
 ghost use Rattle.tn_tile.specs.Kept.{AreStarts, fresh_tile};
-ghost use Rattle.tn_tile.specs.Rows.{is_here};
+ghost use Rattle.tn_tile.specs.Rows.{buffer_at, can_count, is_here, sender_of};
 ghost use Rattle.tn_tile.specs.Step.{pending_at, thread_at};
 
 use crate::buffers::Buffers;
@@ -17,9 +17,13 @@ use tn_base::event::Trap;
 use tn_base::ids::{ThreadId, TileId};
 use tn_base::mask::Mask;
 use tn_base::message::Packet;
+use tn_base::port::Port;
 use tn_base::shape::Shape;
 use tn_slots::pool::Pool;
 use tn_thread::thread::Thread;
+
+/// Letters are dropped on a tile only as long as they can be counted.
+const MOST_DROPPED: u64 = 1 << 63;
 
 /// Whose packet a slot has, and which of its packets.
 #[derive(Clone, Copy, PartialEq, Eq, Debug)]
@@ -178,6 +182,37 @@ impl Tile {
         ensures { result ≡ self.now.dropped }
     {
         self.dropped
+    }
+
+    /// The packet that waits for a way out, held or not.
+    pub fn buffer(&self, way: Port) -> Option<&Packet>
+        ensures { option_copied result ≡ buffer_at way self.now.transit }
+    {
+        self.transit.get(way)
+    }
+
+    /// Whose packet a slot has, and which of its packets; none where the slot is free.
+    pub fn sender(&self, slot: u16) -> Option<(u32, u32)>
+        ensures { result ≡ sender_of slot self.now }
+    {
+        self.pool.bytes(slot)?;
+        let sender = self.senders[slot as usize];
+        Some((sender.origin, sender.number))
+    }
+
+    /// Whether letters that are dropped here can still be counted.
+    #[inline(always)]
+    pub fn counts(&self) -> bool
+        ensures { result ≡ can_count self.now }
+    {
+        self.dropped < MOST_DROPPED
+    }
+
+    /// Whether the tile is this one of this machine.
+    pub fn made_for(&self, shape: &Shape, tile: TileId) -> bool
+        ensures { IsTrue result ↔ ((self.now.shape ≡ shape.now) × (self.now.tile ≡ tile.0)) }
+    {
+        self.shape == *shape && self.tile == tile
     }
 
     /// Whether a thread is one of the tile's.
