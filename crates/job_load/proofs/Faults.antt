@@ -53,7 +53,7 @@ pub soonest_done : {X : Type 0} (test : X → Option LoadFault) (xs : List X) (i
 soonest_done test xs i first h = rw (drop_all i xs h) (sooner_none first)
 
 -- where no item is at fault, the test says so of each
-sooner_neither : (a b : Option LoadFault) → sooner a b ≡ None → (a ≡ None) × (b ≡ None)
+pub sooner_neither : (a b : Option LoadFault) → sooner a b ≡ None → (a ≡ None) × (b ≡ None)
 sooner_neither None b e = (refl, e)
 sooner_neither (Some a) None e = absurd cc
 sooner_neither (Some a) (Some b) e = absurd (no_choice (nat_lt b.line a.line) a b e)

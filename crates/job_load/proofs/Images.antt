@@ -14,6 +14,9 @@ filled_none size image h = let e : size - length image ≡ 0 = omega arith in rw
 pub filled_more : (size : ℕ) (image : List ℕ) → length (filled size image) ≡ length image + (size - length image)
 filled_more size image = length-append image (replicate (size - length image) 0) ∙ ap (λ n. length image + n) (length-replicate (size - length image) 0)
 
+pub filled_long : (size : ℕ) (image : List ℕ) → length image ≤ size → length (filled size image) ≡ size
+filled_long size image h = omega (arith, filled_more size image)
+
 -- filled up to one size and then to another
 pub filled_twice : (size less : ℕ) (image : List ℕ) → less ≤ size → filled size (filled less image) ≡ filled size image
 filled_twice size less image h =

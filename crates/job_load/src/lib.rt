@@ -6,6 +6,8 @@
 mod code;
 pub mod fault;
 mod image;
+pub mod load;
 mod numbers;
 mod sections;
+mod start;
 mod unbuilt;
