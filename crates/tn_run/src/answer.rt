@@ -1,9 +1,9 @@
 //! From an input to its answer.
-ghost use Rattle.std.specs.Prelude.{◌≡◌, ◌≤◌, ◌<◌, ◌^◌, IfOk, length, None, [], option_copied};
+ghost use Rattle.std.specs.Prelude.{⊤, ◌≡◌, ◌≤◌, IfOk, MatchOption, length, None, []};
 ghost use Rattle.job_load.specs.Gives.{Gives};
-ghost use Rattle.tn_rows.specs.Ends.{IsOutcome, last_of};
+ghost use Rattle.tn_rows.specs.Ends.{IsOutcome, final_after, last_of};
+ghost use Rattle.tn_rows.specs.Events.{Rests};
 ghost use Rattle.tn_run.specs.Answer.{IsAnswer, IsRunOf, machine_of};
-ghost use Rattle.tn_world.specs.Plays.{Played};
 
 use crate::history::History;
 use crate::kept::Kept;
@@ -15,6 +15,7 @@ use job_text::job::JobStop;
 use job_text::read::read_job;
 use std::alloc::{AllocError, Global};
 use tn_base::event::{Event, Outcome};
+use tn_text::lines::law_line_count;
 use tn_world::events::{final_of, rest_outcome};
 use tn_world::play::play;
 use tn_world::world::World;
@@ -34,6 +35,7 @@ fn load_input(alloc: Global, input: &[u8]) -> Result<World, LoadStop>
     requires { length input.now ≤ 16777216 }
     ensures { Gives result (machine_of input.now) }
 {
+    law_line_count(input);
     match read_job(alloc, input) {
         Ok(job) => load(alloc, &job),
         Err(JobStop::Memory) => Err(LoadStop::Memory),
@@ -44,15 +46,19 @@ fn load_input(alloc: Global, input: &[u8]) -> Result<World, LoadStop>
     }
 }
 
-/// How a run ended, after which the machine is this one.
+/// How a run ended with its last event, after which the machine is this one, where that event is final.
+fn final_after(world: &World, history: &[Event]) -> Option<Outcome>
+    ensures { result ≡ final_after (last_of history.now) world.now }
+{
+    final_of(world, history.last()?)
+}
+
+/// How a run ended, after which the machine is this one: no event is enabled where the last one is not final.
 fn outcome_of(world: &World, history: &[Event]) -> Outcome
-    requires { Played MOST_EVENTS ? history.now world.now }
+    requires { MatchOption (final_after (last_of history.now) world.now) (Rests world.now) (λ _. ⊤) }
     ensures { IsOutcome history.now world.now result }
 {
-    let Some(last) = last_event(history) else {
-        return rest_outcome(world);
-    };
-    match final_of(world, &last) {
+    match final_after(world, history) {
         Some(outcome) => outcome,
         None => rest_outcome(world),
     }

@@ -71,6 +71,7 @@ fn push_tile_exits(alloc: Global, text: &mut Vec<u8>, tile: &Tile) -> Result<(),
 {
     tile.kept();
     let shape = tile.shape();
+    let _few = shape.tile_threads();
     let mut place = 0;
     for thread in tile.threads() {
         let address = shape.thread_in_tile(tile.name(), place).0;
