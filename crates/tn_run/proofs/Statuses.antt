@@ -9,8 +9,7 @@ use Rattle.tn_run.specs.declared.status.Status.{Status}
 use Rattle.tn_run.specs.declared.status.Status.TheVariants.{Done, Usage, Refused, Trapped, BadKey, Spent, Jammed, ReadFault, WriteFault, Memory, TooLong}
 use Rattle.tn_run.specs.Answer.{IsAnswer, IsAnswerOf, machine_of, status_of}
 use Rattle.tn_run.specs.Kept.{KeptView}
-use Rattle.tn_run.specs.Top.{Answers, Finishes, Ports, Reads, Writes}
-use Rattle.tn_run.specs.Words.{is_form}
+use Rattle.tn_run.specs.Top.{Answers, Finishes, Ports}
 
 -- the status of an answer to an input
 abbrev pub tells : Status → Bool

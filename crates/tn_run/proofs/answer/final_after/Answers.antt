@@ -1,4 +1,4 @@
-use Rattle.std.proofs.Common.{◌≡◌, ◌∙◌, sym}
+use Rattle.std.proofs.Common.{◌∙◌, sym}
 use Rattle.tn_run.proofs.Ending.{final_at}
 use Rattle.tn_run.proofs.answer.final_after.Goals as goal
 

@@ -1,4 +1,4 @@
-use Rattle.std.proofs.Common.{◌≡◌, refl}
+use Rattle.std.proofs.Common.{refl}
 use Rattle.tn_run.proofs.Ending.{run_of}
 use Rattle.tn_run.proofs.answer.run.Goals as goal
 

@@ -1,4 +1,3 @@
-use Rattle.std.proofs.Common.{◌≡◌, ◌∙◌, sym, true}
 use Rattle.tn_run.proofs.Statuses.{answered, not_usage}
 use Rattle.tn_run.proofs.top.run_with.Goals as goal
 
