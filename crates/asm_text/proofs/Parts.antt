@@ -1,8 +1,7 @@
 -- The parts of a text.
-use Rattle.std.proofs.Common.{◌≡◌, ℕ, Bool, ◌+◌, ◌-◌, ◌<◌, ◌≤◌, suc, List, [], ◌∷◌, length, take, drop, refl, ap, ◌∙◌, ⊎_elim, arith, length-drop}
+use Rattle.std.proofs.Common.{◌≡◌, ℕ, Bool, ◌+◌, ◌<◌, ◌≤◌, List, [], ◌∷◌, length, refl, ap, ◌∙◌, ⊎_elim, arith, length-drop}
 use Rattle.std.specs.List.{before_first, after_first, position_or_len, slice_split, onto_first}
 use Rattle.std.proofs.lemmas.Bool.{cases_Bool}
-use Rattle.std.proofs.lemmas.Grind.{common_steps}
 use Rattle.std.proofs.lemmas.List.Splits.{slice_split_first, slice_split-cons_no}
 use Rattle.asm_text.specs.Cut.{is_byte, parts_at, CutsAt}
 

@@ -28,7 +28,7 @@ abbrev pub base_of : List ℕ → Option ℕ
 base_of text = base_by (cut_at 41 text)
 
 abbrev pub with_base : Numeral ℤ → Option ℕ → Result Arg Misread
-with_base number None = Err BadLine
+with_base _ None = Err BadLine
 with_base (Value n) (Some base) = Ok (Mem n base)
 with_base TooLarge (Some base) = Err BadNumber
 with_base NoNumber (Some base) = Err BadLine
@@ -43,7 +43,7 @@ memory_of text = memory_by (cut_at 40 text)
 
 -- a register is never a label
 abbrev pub arg_by : Option ℕ → Numeral ℤ → List ℕ → Result Arg Misread
-arg_by (Some register) number text = Ok (Reg register)
+arg_by (Some register) _ text = Ok (Reg register)
 arg_by None (Value n) text = Ok (Num n)
 arg_by None TooLarge text = Err BadNumber
 arg_by None NoNumber text = if is_name text then Ok (Name text) else memory_of text

@@ -1,5 +1,5 @@
 -- A text in two parts.
-use Rattle.std.specs.Prelude.{◌≡◌, ℕ, ◌<◌, ◌==◌, nat_lt, Bool, List, [], ◌∷◌, length, if◌then◌else◌, Option, Some, None}
+use Rattle.std.specs.Prelude.{◌≡◌, ℕ, ◌<◌, ◌==◌, nat_lt, Bool, List, ◌∷◌, length, if◌then◌else◌, Option, Some, None}
 use Rattle.std.specs.List.{before_first, after_first, position_or_len, slice_split}
 
 abbrev pub is_byte : ℕ → ℕ → Bool

@@ -2,6 +2,8 @@
 use Rattle.std.specs.Prelude.{◌≡◌, ℕ, List}
 use Rattle.std.specs.declared.result.Result.{Result}
 use Rattle.std.specs.declared.result.Result.TheVariants.{Ok, Err}
+use Rattle.std.specs.declared.vec.Vec.{Vec}
+use Rattle.asm_text.specs.declared.line.Line.{Line}
 use Rattle.asm_text.specs.declared.fault.AsmFault.{AsmFault}
 use Rattle.asm_text.specs.declared.fault.AsmKind.{AsmKind}
 use Rattle.asm_text.specs.declared.fault.AsmKind.TheVariants as kinds
@@ -31,3 +33,9 @@ fault_at line kind = record { line = line; kind = kind_of kind }
 abbrev pub stop_at : ℕ → LineStop → AsmStop
 stop_at line line_stops.Memory = stops.Memory
 stop_at line (line_stops.Misread kind) = stops.Fault (fault_at line kind)
+
+-- the lines that were read, or the first fault, unless memory ran out
+abbrev pub Gives : {A : Type 0} → Result (Vec Line A) AsmStop → Result (List Line) AsmFault → Type 0
+Gives (Ok lines) read = read ≡ Ok lines.items
+Gives (Err stops.Memory) read = Unit {0}
+Gives (Err (stops.Fault fault)) read = read ≡ Err fault

@@ -1,7 +1,11 @@
 //! The arguments of an instruction.
 
-ghost use Rattle.std.specs.Prelude.{◌≡◌, IfOk, option_map};
-ghost use Rattle.asm_text.specs.Arguments.{base_of, memory_of, arg_of, args_in};
+ghost use Rattle.std.specs.Prelude.{◌≡◌, [], IfOk};
+ghost use Rattle.std.specs.declared.result.Result.TheVariants.{Ok};
+ghost use Rattle.tn_text.specs.Content.{trimmed as trimmed_of};
+ghost use Rattle.asm_text.specs.Cut.{parts_at};
+ghost use Rattle.asm_text.specs.Arguments.{base_of, memory_of, arg_of, args_of, args_in};
+ghost use Rattle.asm_text.specs.Reading.{joined, Takes};
 ghost use Rattle.asm_text.specs.Gives.{GivesValue};
 
 use crate::cut::cut;
@@ -67,4 +71,61 @@ fn read_arg(alloc: Global, text: &[u8]) -> Result<Arg, LineStop>
         return Ok(Arg::Name(copy_name(alloc, text)?));
     }
     read_memory(text)
+}
+
+/// Arguments that are being read, and whether one had a number that is too large.
+#[derive(Drop)]
+struct Reading {
+    args: Args,
+    too_large: bool,
+}
+
+impl Reading {
+    /// Reads one more argument.
+    fn take(&mut self, alloc: Global, part: &[u8]) -> Result<(), LineStop>
+        ensures { Takes result self.old self.new (arg_of (trimmed_of part.now)) }
+    {
+        match read_arg(alloc, trimmed(part)) {
+            Ok(arg) => self.args.push(arg)?,
+            Err(LineStop::Misread(Misread::BadNumber)) => self.too_large = true,
+            Err(stop) => return Err(stop),
+        }
+        Ok(())
+    }
+
+    fn finish(self) -> Result<Args, LineStop>
+        ensures { GivesValue result (joined self.args self.too_large (Ok [])) }
+    {
+        if self.too_large {
+            return Err(LineStop::Misread(Misread::BadNumber));
+        }
+        Ok(self.args)
+    }
+}
+
+/// The arguments of a text in which something stands.
+fn read_parts(alloc: Global, text: &[u8]) -> Result<Args, LineStop>
+    ensures { GivesValue result (args_of (parts_at 44 text.now)) }
+{
+    let mut reading = Reading {
+        args: Args::new(alloc),
+        too_large: false,
+    };
+    let mut rest = text;
+    while let Some((part, after)) = cut(rest, b',') {
+        reading.take(alloc, part)?;
+        rest = after;
+    }
+    reading.take(alloc, rest)?;
+    reading.finish()
+}
+
+/// The arguments of a text, parted by commas.
+pub(crate) fn read_args(alloc: Global, text: &[u8]) -> Result<Args, LineStop>
+    ensures { GivesValue result (args_in text.now) }
+{
+    if text.is_empty() {
+        return Ok(Args::new(alloc));
+    }
+    read_parts(alloc, text)
 }

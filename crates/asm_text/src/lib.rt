@@ -10,4 +10,6 @@ pub mod fault;
 pub mod line;
 pub mod name;
 pub mod places;
+pub mod read;
 pub mod registers;
+mod statement;

@@ -66,10 +66,7 @@ pub enum Body {
     /// Nothing.
     Empty,
     /// An instruction's name and its arguments.
-    Ins {
-        name: Name,
-        args: Args,
-    },
+    Ins { name: Name, args: Args },
     /// `.word` and its number, in two's complement.
     Word(u32),
 }

@@ -1,4 +1,4 @@
-use Rattle.std.proofs.Common.{◌<◌, ◌≤◌, arith}
+use Rattle.std.proofs.Common.{arith}
 use Rattle.std.proofs.lemmas.Grind.{common_steps}
 use Rattle.asm_text.proofs.Parts.{one_part, cuts_at}
 use Rattle.asm_text.proofs.cut.cut.Goals as goal
