@@ -8,7 +8,6 @@ mod arguments;
 mod cut;
 pub mod fault;
 pub mod line;
-pub mod name;
 pub mod places;
 pub mod read;
 pub mod registers;

@@ -2,9 +2,9 @@
 
 ghost use Rattle.std.specs.Prelude.{◌≡◌, [], ◌∷◌, ◌++◌, is_ok, if◌then◌else◌};
 
-use crate::name::Name;
 use std::alloc::{AllocError, Global};
 use std::marker::Model;
+use tn_base::name::Name;
 
 /// An argument of an instruction.
 #[derive(Drop)]
