@@ -1,0 +1,11 @@
+-- Labels and their addresses.
+use Rattle.std.specs.Prelude.{ℕ, List, [], ◌∷◌, ◌++◌, if◌then◌else◌, Option, is_some, bytes_eq}
+use Rattle.std.specs.Map.{lookup}
+
+-- the address of a label
+abbrev pub address_of : List ℕ → List (List ℕ × ℕ) → Option ℕ
+address_of name labels = lookup (bytes_eq name) labels
+
+-- one more label. One that is there keeps its address
+abbrev pub with_label : List ℕ → ℕ → List (List ℕ × ℕ) → List (List ℕ × ℕ)
+with_label name address labels = if is_some (address_of name labels) then labels else labels ++ (name, address) ∷ []

@@ -1,0 +1,10 @@
+//! Assembly and words: `assemble` and `show`.
+//!
+//! The name of each instruction and the form of its arguments stand in `specs/Spelling.antt`, one line each; what
+//! a line is in words in `specs/Code.antt`, by the words of rv_isa; and what a text is in `specs/Image.antt`. Read
+//! `assemble` first.
+#![tactic(auto)]
+
+mod control;
+pub mod labels;
+mod spelling;
