@@ -1,3 +1,5 @@
 pub mod Spelling
 pub mod Control
 pub mod Labels
+pub mod Fields
+pub mod Code

@@ -5,6 +5,8 @@
 //! `assemble` first.
 #![tactic(auto)]
 
+mod code;
 mod control;
+mod fields;
 pub mod labels;
 mod spelling;

@@ -1,4 +1,5 @@
 pub mod Cut
+pub mod Number
 pub mod Places
 pub mod Registers
 pub mod Arguments

@@ -1,5 +1,5 @@
 -- What one line says.
-use Rattle.std.specs.Prelude.{ℕ, ℤ, pos, negsuc, suc, ◌-◌, ◌%◌, ◌^◌, List, [], ◌∷◌, length, drop, if◌then◌else◌, Option, Some, None, codes, bytes_eq}
+use Rattle.std.specs.Prelude.{ℕ, ℤ, List, [], ◌∷◌, length, drop, if◌then◌else◌, Option, Some, None, codes, bytes_eq}
 use Rattle.std.specs.declared.result.Result.{Result}
 use Rattle.std.specs.declared.result.Result.TheVariants.{Ok, Err}
 use Rattle.tn_text.specs.declared.numbers.Numeral.{Numeral}
@@ -14,13 +14,9 @@ use Rattle.asm_text.specs.declared.line.Body.TheVariants.{Empty, Ins, Word}
 use Rattle.asm_text.specs.declared.line.Line.{Line}
 use Rattle.asm_text.specs.declared.fault.Misread.{Misread}
 use Rattle.asm_text.specs.declared.fault.Misread.TheVariants.{BadLine, BadNumber}
+use Rattle.asm_text.specs.Number.{word_number}
 use Rattle.asm_text.specs.Arguments.{args_in}
 use Rattle.asm_text.specs.Cut.{cut_at}
-
--- the two's complement of a number in 32 bits: the number modulo 2^32
-abbrev pub word_number : ℤ → ℕ
-word_number (pos n) = n % 2 ^ 32
-word_number (negsuc n) = 2 ^ 32 - suc (n % 2 ^ 32)
 
 abbrev pub word_by : Numeral ℤ → Result Body Misread
 word_by (Value n) = Ok (Word (word_number n))

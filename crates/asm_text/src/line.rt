@@ -2,6 +2,8 @@
 
 ghost use Rattle.std.specs.Prelude.{◌≡◌, [], ◌∷◌, ◌++◌, is_ok, if◌then◌else◌};
 
+ghost use Rattle.asm_text.specs.Number.{word_number as word_number_of};
+
 use std::alloc::{AllocError, Global};
 use std::marker::Model;
 use tn_base::name::Name;
@@ -77,4 +79,11 @@ pub struct Line {
     pub number: u32,
     pub label: Option<Name>,
     pub body: Body,
+}
+
+/// The two's complement of a number in 32 bits.
+pub fn word_number(number: i64) -> u32
+    ensures { result ≡ word_number_of number }
+{
+    (number.cast_unsigned() % (1 << 32)) as u32
 }

@@ -1,25 +1,18 @@
 //! What one line says.
 
 ghost use Rattle.std.specs.Prelude.{◌≡◌};
-ghost use Rattle.asm_text.specs.Statement.{word_number as word_number_of, word_body, body_of, line_by, line_of};
+ghost use Rattle.asm_text.specs.Statement.{word_body, body_of, line_by, line_of};
 ghost use Rattle.asm_text.specs.Gives.{GivesValue};
 
 use crate::arguments::{copy_name, read_args};
 use crate::cut::cut;
 use crate::fault::{LineStop, Misread};
-use crate::line::{Body, Line};
+use crate::line::{Body, Line, word_number};
 use std::alloc::Global;
 use tn_text::content::{content, is_plain, trimmed};
 use tn_text::names::is_name;
 use tn_text::numbers::{Numeral, signed_number};
 use tn_text::words::first_word;
-
-/// The two's complement of a number in 32 bits.
-fn word_number(number: i64) -> u32
-    ensures { result ≡ word_number_of number }
-{
-    (number.cast_unsigned() % (1 << 32)) as u32
-}
 
 /// What `.word` places.
 fn read_word(operands: &[u8]) -> Result<Body, LineStop>
