@@ -102,3 +102,8 @@ abbrev pub code_of : List (List ℕ × ℕ) → ℕ → Body → Result Code Asm
 code_of places here Empty = Ok Nothing
 code_of places here (Word word) = Ok (One word)
 code_of places here (Ins name args) = instruction_code name places here args
+
+abbrev pub words_in : Code → List ℕ
+words_in Nothing = []
+words_in (One word) = word ∷ []
+words_in (Two first second) = first ∷ second ∷ []

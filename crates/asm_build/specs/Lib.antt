@@ -3,3 +3,5 @@ pub mod Control
 pub mod Labels
 pub mod Fields
 pub mod Code
+pub mod Image
+pub mod Gives

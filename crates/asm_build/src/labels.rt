@@ -1,7 +1,7 @@
 //! Labels and their addresses.
 
 ghost use Rattle.std.specs.Prelude.{◌≡◌, [], is_ok, if◌then◌else◌};
-ghost use Rattle.asm_build.specs.Labels.{address_of, with_label};
+ghost use Rattle.asm_build.specs.Labels.{address_of, with_label, stood, labelled};
 
 use indexmap::IndexMap;
 use std::alloc::{AllocError, Global};
@@ -45,6 +45,26 @@ impl Labels {
     {
         if self.get(&name).is_none() {
             self.map.insert(name, address)?;
+        }
+        Ok(())
+    }
+
+    /// Whether a line's label is among these.
+    pub(crate) fn has(&self, label: &Option<Name>) -> bool
+        ensures { result ≡ stood label.now self.now }
+    {
+        match label {
+            Some(name) => self.get(name).is_some(),
+            None => false,
+        }
+    }
+
+    /// Adds a line's label, if it has one that is not among these.
+    pub(crate) fn add_label(&mut self, label: &Option<Name>, address: u32) -> Result<(), AllocError>
+        ensures { self.new ≡ (if is_ok result then labelled label.now address self.old else self.old) }
+    {
+        if let Some(name) = label {
+            self.add(name.copy()?, address)?;
         }
         Ok(())
     }

@@ -5,8 +5,10 @@
 //! `assemble` first.
 #![tactic(auto)]
 
+pub mod assemble;
 mod code;
 mod control;
 mod fields;
+pub mod image;
 pub mod labels;
 mod spelling;
