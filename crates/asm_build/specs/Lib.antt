@@ -5,3 +5,4 @@ pub mod Fields
 pub mod Code
 pub mod Image
 pub mod Gives
+pub mod Shown

@@ -11,4 +11,5 @@ mod control;
 mod fields;
 pub mod image;
 pub mod labels;
+pub mod show;
 mod spelling;
