@@ -6,3 +6,4 @@ pub mod Code
 pub mod Image
 pub mod Gives
 pub mod Shown
+pub mod Laws

@@ -15,7 +15,7 @@ abbrev pub register_text : ℕ → List ℕ
 register_text n = 120 ∷ decimal n
 
 abbrev pub memory_text : ℤ → ℕ → List ℕ
-memory_text offset base = signed_decimal offset ++ 40 ∷ register_text base ++ 41 ∷ []
+memory_text offset base = signed_decimal offset ++ (40 ∷ register_text base ++ 41 ∷ [])
 
 -- a number below 4096 in three hexadecimal digits
 abbrev pub control_text : ℕ → List ℕ

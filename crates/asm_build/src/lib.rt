@@ -11,5 +11,6 @@ mod control;
 mod fields;
 pub mod image;
 pub mod labels;
+pub mod laws;
 pub mod show;
 mod spelling;

@@ -51,9 +51,9 @@ impl From<AllocError> for AsmStop {
     }
 }
 
-/// Why a line is not read.
+/// Why a line is not read: the kinds that reading finds, which the definitions on lines name.
 #[derive(Clone, Copy, PartialEq, Eq, Debug)]
-pub(crate) enum Misread {
+pub enum Misread {
     BadLine,
     BadNumber,
 }

@@ -1,0 +1,18 @@
+//! Laws of assembly and words.
+
+ghost use Rattle.std.specs.Prelude.{◌≡◌, ◌<◌};
+ghost use Rattle.std.specs.declared.result.Result.TheVariants.{Ok};
+ghost use Rattle.asm_build.specs.Code.{number_code, address_code};
+ghost use Rattle.asm_build.specs.Laws.{ShowsBack, Loads};
+
+/// The line that `show` writes of a word is read, with whatever number, and assembled to exactly this word.
+pub fn law_show(_number: u32, _word: u32)
+    ensures { ShowsBack _number _word }
+{}
+
+/// The words that load a number have immediates that sum to it, modulo 2^32; those of an address likewise.
+pub fn law_load(_rd: u8, _number: u32)
+    requires { _rd < 32 }
+    ensures number { (code : _) × (number_code _rd _number ≡ Ok code) × Loads _rd _number code }
+    ensures address { (code : _) × (address_code _rd _number ≡ Ok code) × Loads _rd _number code }
+{}
