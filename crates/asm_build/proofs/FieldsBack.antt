@@ -1,5 +1,5 @@
 -- The fields of an instruction are those that its arguments give.
-use Rattle.std.proofs.Common.{◌≡◌, ℕ, ℤ, pos, negsuc, ◌+◌, ◌*◌, ◌/◌, ◌^◌, ◌<◌, Bool, true, false, ◌&&◌, eqb, IsTrue, List, [], ◌∷◌, refl, sym, ap, ◌∙◌, arith, FitsSigned, w32}
+use Rattle.std.proofs.Common.{◌≡◌, ℕ, ℤ, pos, ◌*◌, ◌/◌, ◌^◌, ◌<◌, Bool, ◌&&◌, eqb, IsTrue, List, [], ◌∷◌, sym, ap, ◌∙◌, arith, FitsSigned, w32}
 use Rattle.std.specs.Fmt.{decimal, signed_decimal}
 use Rattle.std.specs.Int.{cast_unsigned}
 use Rattle.std.specs.declared.result.Result.{Result}

@@ -4,3 +4,4 @@ pub mod Tight
 pub mod Operands
 pub mod FieldsBack
 pub mod ShowBack
+pub mod LoadLemmas

@@ -1,28 +1,27 @@
 -- Arguments that were printed are read again.
-use Rattle.std.proofs.Common.{◌≡◌, ℕ, ℤ, pos, negsuc, ◌+◌, ◌*◌, ◌/◌, ◌%◌, ◌^◌, ◌<◌, ◌≤◌, zero, suc, Bool, true, false, not, ◌&&◌, leb, eqb, ltb, List, [], ◌∷◌, ◌++◌, Option, Some, None, map, length, take, drop, codes, refl, sym, ap, ◌∙◌, ⊎_elim, arith, one-add, add-one, append-nil, append_assoc, length-append, cond, FitsSigned, w32}
+use Rattle.std.proofs.Common.{◌≡◌, ℕ, ℤ, pos, negsuc, ◌+◌, ◌*◌, ◌/◌, ◌%◌, ◌^◌, ◌<◌, zero, suc, Bool, true, false, not, ◌&&◌, leb, eqb, ltb, List, [], ◌∷◌, ◌++◌, Option, Some, None, length, take, drop, codes, refl, sym, ap, ◌∙◌, ⊎_elim, arith, one-add, append-nil, append_assoc, length-append, cond, FitsSigned, w32}
 use Rattle.std.specs.declared.result.Result.TheVariants.{Ok}
 use Rattle.std.specs.Char.{is_digit, digit_value, digit_char}
 use Rattle.std.specs.Fmt.{decimal, signed_decimal, digits}
-use Rattle.std.specs.List.{list_all, position_or_len, before_first, after_first}
+use Rattle.std.specs.List.{list_all, position_or_len}
 use Rattle.std.specs.Str.{bytes_eq}
 use Rattle.std.specs.Str.Parse.{digits_value, AllDigits}
 use Rattle.std.specs.Int.Digits.{number_from_digits}
-use Rattle.std.proofs.lemmas.Bool.{and_parts, and_from, lt-ltb, cases_lt, cases_Bool, eqb-true}
+use Rattle.std.proofs.lemmas.Bool.{and_parts, and_from, lt-ltb, cases_lt, eqb-true}
 use Rattle.std.proofs.lemmas.Bool.Decides.{nat_tests}
 use Rattle.std.proofs.lemmas.Fmt.{decimal_is_IsNumeral}
 use Rattle.std.proofs.lemmas.Int.Digits.{digits_value_is}
 use Rattle.std.proofs.lemmas.List.{take_at, drop_at}
 use Rattle.std.proofs.lemmas.List.Folds.{list_all-append}
 use Rattle.tn_text.specs.declared.numbers.Numeral.{Numeral}
-use Rattle.tn_text.specs.declared.numbers.Numeral.TheVariants.{Value, TooLarge, NoNumber}
+use Rattle.tn_text.specs.declared.numbers.Numeral.TheVariants.{Value, NoNumber}
 use Rattle.tn_text.specs.Content.{trimmed}
-use Rattle.tn_text.specs.Hex.{is_hex_digit}
 use Rattle.tn_text.specs.Names.{is_name}
 use Rattle.tn_text.specs.Numbers.{number_of, numeral_of, signed_number_of, positive, negative}
 use Rattle.tn_text.specs.Words.{is_some_text}
 use Rattle.tn_text.proofs.Printed.{decimal_read_back}
 use Rattle.asm_text.specs.declared.line.Arg.TheVariants.{Reg, Num, Name, Mem}
-use Rattle.asm_text.specs.Arguments.{arg_by, arg_of, memory_of, memory_by, with_base, base_of, base_by, register_before}
+use Rattle.asm_text.specs.Arguments.{arg_by, arg_of, memory_of, memory_by, with_base, base_of, base_by}
 use Rattle.asm_text.specs.Cut.{is_byte, cut_at}
 use Rattle.asm_text.specs.Registers.{register_of}
 use Rattle.asm_build.specs.Shown.{register_text, memory_text, control_text}
@@ -175,8 +174,8 @@ three_digits a b c n ha hb hc sum small =
     let text = digit_char a ∷ digit_char b ∷ digit_char c ∷ [] in
     let pa = char_digit a ha in let pb = char_digit b hb in let pc = char_digit c hc in
     let value : digits_value 16 text ≡ n = digits_value_is 16 text
-        ∙ ap (number_from_digits 16) (ap (λ (x : ℕ). x ∷ digit_value (digit_char b) ∷ digit_value (digit_char c) ∷ []) (digit_back a ha)
-        ∙ ap (λ (x : ℕ). a ∷ x ∷ digit_value (digit_char c) ∷ []) (digit_back b hb) ∙ ap (λ (x : ℕ). a ∷ b ∷ x ∷ []) (digit_back c hc)) ∙ omega (arith, sum) in
+    ∙ ap (number_from_digits 16) (ap (λ (x : ℕ). x ∷ digit_value (digit_char b) ∷ digit_value (digit_char c) ∷ []) (digit_back a ha)
+    ∙ ap (λ (x : ℕ). a ∷ x ∷ digit_value (digit_char c) ∷ []) (digit_back b hb) ∙ ap (λ (x : ℕ). a ∷ b ∷ x ∷ []) (digit_back c hc)) ∙ omega (arith, sum) in
     let fits = lt-ltb n (2 ^ 32) small in
     rw (pa, pb, pc, value, fits) refl
 
@@ -269,9 +268,9 @@ memory_arg z n h k =
     let rest : List ℕ = register_text n ++ 41 ∷ [] in
     let text = memory_text z n in
     let number : signed_number_of (trimmed (signed_decimal z)) ≡ Value z =
-        ap signed_number_of (word_trimmed (signed_decimal z) (signed_tight z h)) ∙ signed_back z h in
+    ap signed_number_of (word_trimmed (signed_decimal z) (signed_tight z h)) ∙ signed_back z h in
     let memory : memory_of text ≡ Ok (Mem z n) = ap memory_by (cut_found 40 (signed_decimal z) rest (signed_lacks z h))
-        ∙ ap (λ (x : Numeral ℤ). with_base x (base_of rest)) number ∙ ap (λ (o : Option ℕ). with_base (Value z) o) (base_back n k) in
+    ∙ ap (λ (x : Numeral ℤ). with_base x (base_of rest)) number ∙ ap (λ (o : Option ℕ). with_base (Value z) o) (base_back n k) in
     ap (λ (o : Option ℕ). arg_by o (signed_number_of text) text) (signed_none z (40 ∷ rest) h)
     ∙ ap (λ (x : Numeral ℤ). arg_by None x text) (signed_no_number z rest h)
     ∙ ap (λ (b : Bool). cond b (Ok (Name text)) (memory_of text)) (signed_no_name z (40 ∷ rest) h) ∙ memory

@@ -1,22 +1,19 @@
 -- The canonical line of a word is assembled to the word.
-use Rattle.std.proofs.Common.{◌≡◌, ℕ, ℤ, pos, ◌^◌, ◌<◌, ◌/◌, ◌%◌, ◌&&◌, eqb, ⊎_elim, Bool, true, false, IsTrue, cond, List, [], ◌∷◌, ◌++◌, Option, Some, None, length, drop, codes, refl, sym, ap, ◌∙◌, subst, arith}
+use Rattle.std.proofs.Common.{◌≡◌, ℕ, pos, ◌^◌, ◌<◌, ◌/◌, ◌%◌, ◌&&◌, eqb, ⊎_elim, Bool, true, cond, List, [], ◌∷◌, ◌++◌, Option, Some, None, length, drop, codes, refl, sym, ap, ◌∙◌, arith}
 use Rattle.std.specs.declared.result.Result.{Result}
 use Rattle.std.specs.declared.result.Result.TheVariants.{Ok, Err}
 use Rattle.std.specs.List.{list_all}
-use Rattle.std.specs.Str.{bytes_eq}
 use Rattle.std.proofs.lemmas.List.{drop_at}
 use Rattle.std.specs.Str.Parse.{digits_value}
 use Rattle.std.proofs.lemmas.Bool.{cases_Bool, and_parts, eqb-true, lt-ltb}
-use Rattle.tn_text.specs.declared.numbers.Numeral.{Numeral}
 use Rattle.tn_text.specs.declared.numbers.Numeral.TheVariants.{Value}
 use Rattle.tn_text.specs.Hex.{is_hex_digit, hex_word_of, hex_word_text}
 use Rattle.tn_text.specs.Numbers.{numeral_of, signed_number_of, positive}
 use Rattle.tn_text.proofs.Printed.{hex_word_read_back}
 use Rattle.tn_text.specs.Lines.{lines_of}
-use Rattle.tn_text.specs.Content.{content_of, is_plain, trimmed, without_front_spaces}
-use Rattle.tn_text.specs.Names.{is_name}
-use Rattle.tn_text.specs.Words.{words_of, is_some_text}
-use Rattle.rv_isa.specs.Decode.{instr_of, decode_of}
+use Rattle.tn_text.specs.Content.{content_of, trimmed}
+use Rattle.tn_text.specs.Words.{is_some_text}
+use Rattle.rv_isa.specs.Decode.{decode_of}
 use Rattle.rv_isa.specs.Word.{word_of}
 use Rattle.rv_isa.specs.declared.instr.Instr.{Instr}
 use Rattle.rv_isa.specs.declared.op.Op32.{Op32}
@@ -30,22 +27,21 @@ use Rattle.asm_text.specs.declared.line.Body.{Body}
 use Rattle.asm_text.specs.declared.line.Body.TheVariants.{Ins, Word}
 use Rattle.asm_text.specs.declared.line.Line.{Line}
 use Rattle.asm_text.specs.Arguments.{arg_of, arg_before, args_of, args_in}
-use Rattle.asm_text.specs.Cut.{cut_at, parts_at}
+use Rattle.asm_text.specs.Cut.{parts_at}
 use Rattle.asm_text.specs.Statement.{word_by as word_number_by, word_body, named, instruction_of, body_by, body_of, with_body, labelled, line_by, some_line, content_line, line_of}
-use Rattle.asm_text.specs.Text.{onto_lines, line_before, lines_from}
+use Rattle.asm_text.specs.Text.{line_before, lines_from}
 use Rattle.asm_build.specs.declared.code.Code.{Code}
 use Rattle.asm_build.specs.declared.code.Code.TheVariants.{One}
-use Rattle.asm_build.specs.declared.fields.Fields.{Fields}
 use Rattle.asm_build.specs.declared.image.Image.{Image}
-use Rattle.asm_build.specs.Code.{word_by, word_for, one, op_by, op_code, code_by, instruction_code, code_of, pseudo_code}
+use Rattle.asm_build.specs.Code.{word_by, word_for, one, op_by, code_by, code_of}
 use Rattle.asm_build.specs.Fields.{fields_of}
-use Rattle.asm_build.specs.Image.{checked, limited, line_code, grown, and_then, image_after, image_of, empty_image, places_of}
+use Rattle.asm_build.specs.Image.{limited, grown, and_then, image_of, empty_image}
 use Rattle.asm_build.specs.Laws.{image_by, assembled}
 use Rattle.asm_build.specs.Shown.{more_operands, operand_text, text_of, operands_of, shown_instr, unknown_text, shown_by, shown}
 use Rattle.asm_build.specs.Spelling.{name_of, form_of, op_named, pseudo_named}
 use Rattle.asm_build.proofs.Tight.{line_byte, begins_tight, ends_tight, IsTight, AreTight, lines_of-line, plain_line, no_label, without_front_is, trimmed_behind, content_is, word_begins, word_trimmed, word_trimmed_behind, more_ends, text_ends, text_bytes, first_word_is, behind_space, parts_are}
 use Rattle.asm_build.proofs.Operands.{char_tight}
-use Rattle.asm_build.proofs.FieldsBack.{form_fits, fits_form, form_args, fields_with, form_fields, ReadsAs, Reads, form_reads}
+use Rattle.asm_build.proofs.FieldsBack.{fits_form, form_args, fields_with, form_fields, Reads, form_reads}
 
 -- Arguments.
 
@@ -106,10 +102,10 @@ lines_text : (number b : ℕ) (bs : List ℕ) (body : Body) → list_all line_by
 lines_text number b bs body bytes begins ends h =
     let text = b ∷ bs in
     let statement : line_by number text ≡ Ok (line_with number body) =
-        ap (labelled number text) (no_label text bytes) ∙ ap (with_body number None) h in
+    ap (labelled number text) (no_label text bytes) ∙ ap (with_body number None) h in
     let line : line_of number text ≡ Ok (Some (line_with number body)) =
-        ap (λ (t : Bool). cond t (content_line number (content_of text)) (Err misreads.BadLine)) (plain_line text bytes)
-        ∙ ap (content_line number) (content_is text bytes begins ends) ∙ ap some_line statement in
+    ap (λ (t : Bool). cond t (content_line number (content_of text)) (Err misreads.BadLine)) (plain_line text bytes)
+    ∙ ap (content_line number) (content_is text bytes begins ends) ∙ ap some_line statement in
     ap (lines_from number) (lines_of-line b bs bytes) ∙ ap (λ (r : Result (Option Line) Misread). line_before number r (Ok [])) line
 
 lines_by : (number : ℕ) (text : List ℕ) (body : Body) → is_some_text text ≡ true → list_all line_byte text ≡ true → begins_tight text ≡ true → ends_tight text ≡ true
@@ -130,7 +126,7 @@ pub text_back : (number : ℕ) (name : List ℕ) (texts : List (List ℕ)) (body
 text_back number name texts body word h hs is code =
     let text = text_of name texts in
     ap image_by (lines_by number text body (some_front name (operand_text texts) h) (text_bytes name texts h hs) (word_begins name (operand_text texts) h) (text_ends name texts h hs)
-        (body_text name texts h ∙ is))
+    (body_text name texts h ∙ is))
     ∙ image_line number body word code
 
 -- Names.
@@ -204,7 +200,7 @@ unknown_back number word h =
     let tight = operand_tight word h in
     let same : word % 2 ^ 32 ≡ word = omega arith in
     let is : instruction_of (codes ".word") (trimmed (operand_text (text ∷ []))) ≡ Ok (Word word) =
-        ap (λ (t : List ℕ). word_body t) (word_trimmed_behind text tight) ∙ ap word_number_by (operand_number word h) ∙ ap (λ (n : ℕ). Ok (Word n)) same in
+    ap (λ (t : List ℕ). word_body t) (word_trimmed_behind text tight) ∙ ap word_number_by (operand_number word h) ∙ ap (λ (n : ℕ). Ok (Word n)) same in
     text_back number (codes ".word") (text ∷ []) (Word word) word (record { bytes = refl; some = refl }) (tight, tt) is refl
 
 -- The law.

@@ -1,11 +1,11 @@
 -- Lines of a name and arguments, and what reading makes of them.
-use Rattle.std.proofs.Common.{◌≡◌, ℕ, ◌+◌, ◌-◌, ◌<◌, Bool, true, false, not, ◌&&◌, leb, eqb, ltb, List, [], ◌∷◌, ◌++◌, Option, Some, None, length, take, drop, reverse, filter, map, refl, sym, ap, ◌∙◌, arith, take_all, append-nil, one-add, add-one}
+use Rattle.std.proofs.Common.{◌≡◌, ℕ, ◌-◌, Bool, true, false, not, ◌&&◌, leb, eqb, ltb, List, [], ◌∷◌, ◌++◌, None, length, reverse, filter, refl, sym, ap, ◌∙◌, arith, take_all, append-nil, one-add}
 use Rattle.std.specs.List.{list_all, prefix_len, suffix_len, position_or_len, slice_split, onto_first}
-use Rattle.std.proofs.lemmas.Bool.{and_parts, and_from, lt-ltb}
+use Rattle.std.proofs.lemmas.Bool.{and_parts, and_from}
 use Rattle.std.proofs.lemmas.Bool.Decides.{nat_tests}
 use Rattle.std.proofs.lemmas.List.{reverse-append}
 use Rattle.std.proofs.lemmas.List.Folds.{list_all-append}
-use Rattle.std.proofs.lemmas.List.Splits.{slice_split-cons_no, slice_split-cons_yes}
+use Rattle.std.proofs.lemmas.List.Splits.{slice_split-cons_no}
 use Rattle.tn_text.specs.Lines.{is_feed, lines_of, onto_line}
 use Rattle.tn_text.specs.Content.{is_space, is_hash, may_stand, before_comment, content_of, trimmed, without_front_spaces, is_plain}
 use Rattle.tn_text.specs.Words.{is_some_text, words_of}

@@ -4,6 +4,7 @@ use Rattle.std.specs.declared.result.Result.{Result}
 use Rattle.std.specs.declared.result.Result.TheVariants.{Ok, Err}
 use Rattle.tn_text.specs.Lines.{lines_of}
 use Rattle.asm_text.specs.declared.fault.AsmFault.{AsmFault}
+use Rattle.asm_text.specs.declared.fault.AsmKind.{AsmKind}
 use Rattle.asm_text.specs.declared.line.Line.{Line}
 use Rattle.asm_text.specs.Number.{word_number}
 use Rattle.asm_text.specs.Text.{lines_from}
@@ -33,3 +34,7 @@ Loads rd n Nothing = ⊥
 Loads rd n (One word) = (imm : ℤ) × (word_for Addi rd 0 0 imm ≡ Ok word) × (word_number imm ≡ n)
 Loads rd n (Two first second) =
     (high low : ℤ) × (word_for Lui rd 0 0 high ≡ Ok first) × (word_for Addi rd rd 0 low ≡ Ok second) × (word_number (high +ℤ low) ≡ n)
+
+abbrev pub IsLoad : ℕ → ℕ → Result Code AsmKind → Type 0
+IsLoad rd n (Ok code) = Loads rd n code
+IsLoad rd n (Err kind) = ⊥

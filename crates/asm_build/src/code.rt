@@ -3,7 +3,7 @@
 ghost use Rattle.std.specs.Prelude.{◌≡◌, length};
 ghost use Rattle.asm_build.specs.Code.{word_for, one as one_of, high_part, low_part, number_code, address_code, target_code, label_code, pseudo_code, op_code, instruction_code, code_of};
 
-use crate::fields::{read_fields, offset};
+use crate::fields::{offset, read_fields};
 use crate::labels::Labels;
 use crate::spelling::{Pseudo, op_named, pseudo_named, spelling};
 use asm_text::fault::AsmKind;
@@ -11,7 +11,6 @@ use asm_text::line::{Arg, Body, word_number};
 use rv_isa::instr::Instr;
 use rv_isa::op::Op32;
 use rv_isa::word::encode;
-
 
 /// The words of a line.
 #[derive(Clone, Copy, PartialEq, Eq, Debug)]

@@ -7,8 +7,19 @@ use asm_text::places::find_place;
 
 /// The names of the control registers from 0x800 on, in order.
 const NAMES: [&str; 13] = [
-    "CanSend", "CanRecv", "SendLen", "SendDest", "MaskLow", "MaskHigh", "Send", "Recv", "Free", "WaitUntil", "Idle",
-    "Kill", "SendSlot",
+    "CanSend",
+    "CanRecv",
+    "SendLen",
+    "SendDest",
+    "MaskLow",
+    "MaskHigh",
+    "Send",
+    "Recv",
+    "Free",
+    "WaitUntil",
+    "Idle",
+    "Kill",
+    "SendSlot",
 ];
 
 /// The number of the control register of a name.

@@ -192,7 +192,12 @@ fn of_fence(args: &[Arg]) -> Result<Fields, AsmKind>
 }
 
 /// The fields that arguments of a form give.
-pub(crate) fn read_fields(form: Form, places: &Labels, here: u32, args: &[Arg]) -> Result<Fields, AsmKind>
+pub(crate) fn read_fields(
+    form: Form,
+    places: &Labels,
+    here: u32,
+    args: &[Arg],
+) -> Result<Fields, AsmKind>
     ensures { result ≡ fields_of form places.now here args.now }
 {
     match form {

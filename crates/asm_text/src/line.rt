@@ -1,7 +1,6 @@
 //! A line of assembly.
 
 ghost use Rattle.std.specs.Prelude.{◌≡◌, [], ◌∷◌, ◌++◌, is_ok, if◌then◌else◌};
-
 ghost use Rattle.asm_text.specs.Number.{word_number as word_number_of};
 
 use std::alloc::{AllocError, Global};

@@ -1,4 +1,4 @@
-use Rattle.std.proofs.Common.{◌≡◌, ℤ, sym, ap, ◌∙◌, subst, FitsSigned, w32, w64, arith}
+use Rattle.std.proofs.Common.{ℤ, sym, ap, ◌∙◌, subst, FitsSigned, w32, w64, arith}
 use Rattle.std.proofs.lemmas.Int.{ints}
 use Rattle.rv_isa.specs.Decode.{instr_of}
 use Rattle.asm_build.specs.Code.{word_by, word_for}
