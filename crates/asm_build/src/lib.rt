@@ -14,3 +14,5 @@ pub mod labels;
 pub mod laws;
 pub mod show;
 mod spelling;
+#[cfg(test)]
+mod tests;
