@@ -5,3 +5,5 @@ pub mod Operands
 pub mod FieldsBack
 pub mod ShowBack
 pub mod LoadLemmas
+pub mod Sizes
+pub mod Places

@@ -6,4 +6,5 @@ pub mod Code
 pub mod Image
 pub mod Gives
 pub mod Shown
+pub mod Assembled
 pub mod Laws

@@ -8,7 +8,6 @@ use asm_text::fault::{AsmFault, AsmKind, AsmStop};
 use asm_text::read::read_lines;
 use std::alloc::Global;
 use std::process::Abort;
-use std::test::Fail;
 use table::{TEXT, WORDS};
 use tn_base::name::Name;
 use tn_text::lines::law_line_count;

@@ -12,3 +12,5 @@ pub mod places;
 pub mod read;
 pub mod registers;
 mod statement;
+#[cfg(test)]
+mod tests;
