@@ -7,3 +7,4 @@ pub mod ShowBack
 pub mod LoadLemmas
 pub mod Sizes
 pub mod Places
+pub mod Assembly

@@ -1,9 +1,9 @@
 -- Where the labels of a text stand.
-use Rattle.std.proofs.Common.{◌≡◌, ◌⊎◌, inl, inr, ℕ, ◌+◌, ◌*◌, ◌%◌, ◌^◌, Bool, true, false, ◌&&◌, eqb, cond, List, [], ◌∷◌, ◌++◌, Option, Some, None, is_some, refl, sym, ap, ◌∙◌, subst, ⊎_elim, eq-eqb}
+use Rattle.std.proofs.Common.{◌≡◌, ◌⊎◌, inl, inr, ℕ, ◌+◌, ◌*◌, ◌%◌, ◌^◌, Bool, true, false, ◌&&◌, eqb, List, [], ◌∷◌, ◌++◌, Option, Some, None, refl, sym, ap, ◌∙◌, subst, ⊎_elim, eq-eqb}
 use Rattle.std.specs.Str.{bytes_eq}
 use Rattle.std.proofs.lemmas.Bool.{cases_Bool, and_parts, eqb-true}
 use Rattle.asm_text.specs.declared.line.Line.{Line}
-use Rattle.asm_build.specs.Labels.{address_of, with_label, stood, labelled}
+use Rattle.asm_build.specs.Labels.{address_of, with_label, labelled}
 use Rattle.asm_build.specs.Image.{known_after, size_of, places_after}
 use Rattle.asm_build.proofs.Sizes.{Covers}
 
@@ -90,9 +90,9 @@ zero_own name labels z =
 cover_step : (name : List ℕ) (address : ℕ) (known places : Labels) → Covers known places → AllZero known → Covers (with_label name 0 known) (with_label name address places)
 cover_step name address known places c z = record {
   at = λ other found h.
-    ⊎_elim (λ e. keeps other name 0 0 known (c.at other found e))
-    (λ e. subst (λ (n : List ℕ). address_of n (with_label name 0 known) ≡ Some 0) (sym e.0) (zero_own name known z))
-    (gives other name address found places h);
+      ⊎_elim (λ e. keeps other name 0 0 known (c.at other found e))
+      (λ e. subst (λ (n : List ℕ). address_of n (with_label name 0 known) ≡ Some 0) (sym e.0) (zero_own name known z))
+      (gives other name address found places h);
 }
 
 zero_label : (label : Option (List ℕ)) (labels : Labels) → AllZero labels → AllZero (labelled label 0 labels)

@@ -1,27 +1,27 @@
 -- How many words a line has does not depend on where the labels stand.
-use Rattle.std.proofs.Common.{◌≡◌, ℕ, ℤ, pos, ◌-ℤ◌, ◌<◌, Bool, true, false, IsTrue, List, [], ◌∷◌, Option, Some, None, length, refl, sym, ap, ◌∙◌, subst, arith}
+use Rattle.std.proofs.Common.{◌≡◌, ℕ, ℤ, pos, ◌-ℤ◌, Bool, true, false, IsTrue, List, [], ◌∷◌, Option, Some, None, length, refl, sym, ap, ◌∙◌, arith}
 use Rattle.std.specs.declared.result.Result.{Result}
 use Rattle.std.specs.declared.result.Result.TheVariants.{Ok, Err}
 use Rattle.std.proofs.lemmas.Int.{ints}
 use Rattle.std.proofs.lemmas.Bool.Decides.{nat_tests}
 use Rattle.rv_isa.specs.Table.{row_of, row_fits}
-use Rattle.rv_isa.specs.Decode.{with_fit, instr_of}
+use Rattle.rv_isa.specs.Decode.{with_fit}
 use Rattle.rv_isa.specs.declared.op.Op32.{Op32}
-use Rattle.rv_isa.specs.declared.op.Op32.TheVariants.{Lui, Jal, Jalr, Beq, Bne, Addi}
+use Rattle.rv_isa.specs.declared.op.Op32.TheVariants.{Lui, Jal, Beq, Bne, Addi}
 use Rattle.asm_text.specs.declared.fault.AsmKind.{AsmKind}
 use Rattle.asm_text.specs.declared.line.Arg.{Arg}
 use Rattle.asm_text.specs.declared.line.Arg.TheVariants.{Reg, Num, Name, Mem}
 use Rattle.asm_text.specs.declared.line.Body.{Body}
 use Rattle.asm_text.specs.declared.line.Body.TheVariants.{Empty, Ins, Word}
 use Rattle.asm_build.specs.declared.code.Code.{Code}
-use Rattle.asm_build.specs.declared.code.Code.TheVariants.{Nothing, One, Two}
+use Rattle.asm_build.specs.declared.code.Code.TheVariants.{One, Two}
 use Rattle.asm_build.specs.declared.spelling.Form.{Form}
-use Rattle.asm_build.specs.declared.spelling.Form.TheVariants.{Registers, Immediate, Load, Store, Branch, Upper, Jump, Control, Alone, Fence}
+use Rattle.asm_build.specs.declared.spelling.Form.TheVariants.{Registers, Branch, Jump}
 use Rattle.asm_build.specs.declared.spelling.Pseudo.{Pseudo}
 use Rattle.asm_build.specs.declared.spelling.Pseudo.TheVariants.{Nop, Mv, Li, La, J, Call, Ret, Beqz, Bnez}
 use Rattle.asm_build.specs.Labels.{address_of}
 use Rattle.asm_build.specs.Fields.{offset_by, offset_of, beside, fields_of, branch_fields, jump_fields}
-use Rattle.asm_build.specs.Code.{word_by, word_for, one, two, low_part, high_part, address_code, label_code, target_code, pseudo_code, op_by, op_code, code_by, instruction_code, code_of, words_in}
+use Rattle.asm_build.specs.Code.{word_by, word_for, one, two, low_part, high_part, address_code, label_code, target_code, pseudo_code, op_by, code_by, code_of, words_in}
 use Rattle.asm_build.specs.Image.{size_by}
 use Rattle.asm_build.specs.Spelling.{form_of, op_named, pseudo_named}
 use Rattle.asm_build.proofs.LoadLemmas.{fitting_word}

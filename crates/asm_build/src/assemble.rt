@@ -1,7 +1,8 @@
 //! Assembling a text.
 
 ghost use Rattle.std.specs.Prelude.{◌≡◌, [], IfOk};
-ghost use Rattle.asm_build.specs.Image.{size_of, known_after, places_after, places_of, empty_image, image_after, image_of};
+ghost use Rattle.asm_build.specs.Image.{size_of, known_after, places_after, empty_image, image_after, image_of};
+ghost use Rattle.asm_build.specs.Assembled.{IsAssembled};
 ghost use Rattle.asm_build.specs.Gives.{Gives};
 
 use crate::code::find_code;
@@ -58,11 +59,20 @@ fn build(alloc: Global, places: &Labels, lines: &[Line]) -> Result<Image, AsmSto
 }
 
 /// The words of a text, and the addresses of its labels.
-pub fn assemble(alloc: Global, lines: &[Line]) -> Result<Image, AsmStop>
-    // The words of each line in order, or the first line at fault with the first kind that applies there.
+fn assemble_lines(alloc: Global, lines: &[Line]) -> Result<Image, AsmStop>
     ensures { Gives result (image_of lines.now) }
 {
     let known = name_labels(alloc, lines)?;
     let places = place_labels(alloc, &known, lines)?;
     build(alloc, &places, lines)
+}
+
+/// The words of a text, and the addresses of its labels.
+pub fn assemble(alloc: Global, lines: &[Line]) -> Result<Image, AsmStop>
+    // The image of the lines, or the first line at fault with the first kind that applies there.
+    ensures image { Gives result (image_of lines.now) }
+    // Each line's words are those of its instruction where the image's own labels stand.
+    ensures assembled { IfOk result (λ image. IsAssembled lines.now image) }
+{
+    assemble_lines(alloc, lines)
 }
