@@ -36,7 +36,7 @@ use Rattle.asm_build.specs.declared.image.Image.{Image}
 use Rattle.asm_build.specs.Code.{word_by, word_for, one, op_by, code_by, code_of}
 use Rattle.asm_build.specs.Fields.{fields_of}
 use Rattle.asm_build.specs.Image.{limited, grown, and_then, image_of, empty_image}
-use Rattle.asm_build.specs.Laws.{image_by, assembled}
+use Rattle.asm_build.specs.Text.{image_by, assembled}
 use Rattle.asm_build.specs.Shown.{more_operands, operand_text, text_of, operands_of, shown_instr, unknown_text, shown_by, shown}
 use Rattle.asm_build.specs.Spelling.{name_of, form_of, op_named, pseudo_named}
 use Rattle.asm_build.proofs.Tight.{line_byte, begins_tight, ends_tight, IsTight, AreTight, lines_of-line, plain_line, no_label, without_front_is, trimmed_behind, content_is, word_begins, word_trimmed, word_trimmed_behind, more_ends, text_ends, text_bytes, first_word_is, behind_space, parts_are}

@@ -1,28 +1,15 @@
 -- What the laws say.
-use Rattle.std.specs.Prelude.{◌≡◌, ℕ, ℤ, ◌+ℤ◌, List, [], ◌∷◌}
+use Rattle.std.specs.Prelude.{◌≡◌, ℕ, ℤ, ◌+ℤ◌, [], ◌∷◌}
 use Rattle.std.specs.declared.result.Result.{Result}
 use Rattle.std.specs.declared.result.Result.TheVariants.{Ok, Err}
-use Rattle.tn_text.specs.Lines.{lines_of}
-use Rattle.asm_text.specs.declared.fault.AsmFault.{AsmFault}
 use Rattle.asm_text.specs.declared.fault.AsmKind.{AsmKind}
-use Rattle.asm_text.specs.declared.line.Line.{Line}
 use Rattle.asm_text.specs.Number.{word_number}
-use Rattle.asm_text.specs.Text.{lines_from}
 use Rattle.rv_isa.specs.declared.op.Op32.TheVariants.{Lui, Addi}
 use Rattle.asm_build.specs.declared.code.Code.{Code}
 use Rattle.asm_build.specs.declared.code.Code.TheVariants.{Nothing, One, Two}
-use Rattle.asm_build.specs.declared.image.Image.{Image}
 use Rattle.asm_build.specs.Code.{word_for}
-use Rattle.asm_build.specs.Image.{image_of}
 use Rattle.asm_build.specs.Shown.{shown}
-
-abbrev pub image_by : Result (List Line) AsmFault → Result Image AsmFault
-image_by (Ok lines) = image_of lines
-image_by (Err fault) = Err fault
-
--- what reading and assembling make of a text whose first line has this number
-abbrev pub assembled : ℕ → List ℕ → Result Image AsmFault
-assembled first text = image_by (lines_from first (lines_of text))
+use Rattle.asm_build.specs.Text.{assembled}
 
 -- the canonical line of a word is assembled to exactly this word
 abbrev pub ShowsBack : ℕ → ℕ → Type 0

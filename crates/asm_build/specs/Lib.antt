@@ -7,4 +7,5 @@ pub mod Image
 pub mod Gives
 pub mod Shown
 pub mod Assembled
+pub mod Text
 pub mod Laws

@@ -14,7 +14,7 @@ use tn_text::lines::law_line_count;
 
 /// Whether a text is assembled to these words.
 fn gives<H: Abort>(rt: &H, alloc: Global, text: &[u8], words: &[u32]) -> bool {
-    assert!(rt; text.len() < 8000);
+    assert!(rt; text.len() < 100_000);
     law_line_count(text);
     let Ok(lines) = read_lines(alloc, text, 1) else {
         return false;
@@ -27,7 +27,7 @@ fn gives<H: Abort>(rt: &H, alloc: Global, text: &[u8], words: &[u32]) -> bool {
 
 /// The first fault of a text, with the number of its line.
 fn fault_of<H: Abort>(rt: &H, alloc: Global, text: &[u8]) -> Option<(u32, AsmKind)> {
-    assert!(rt; text.len() < 8000);
+    assert!(rt; text.len() < 100_000);
     law_line_count(text);
     let Ok(lines) = read_lines(alloc, text, 1) else {
         return None;
@@ -48,7 +48,7 @@ fn shows(alloc: Global, word: u32, line: &str) -> bool {
 
 /// The address of a label in a text.
 fn address_of<H: Abort>(rt: &H, alloc: Global, text: &[u8], label: &[u8]) -> Option<u32> {
-    assert!(rt; text.len() < 8000);
+    assert!(rt; text.len() < 100_000);
     law_line_count(text);
     let Ok(lines) = read_lines(alloc, text, 1) else {
         return None;
@@ -165,6 +165,31 @@ fn names_first_faults(rt: HostRuntime) {
     assert!(rt; fault_of(&rt, a, b"a: nop\na: j 1".as_slice()) == Some((2, AsmKind::OutOfRange)));
     assert!(rt; fault_of(&rt, a, b"j b\nb:\nb:\nwhat".as_slice()) == Some((3, AsmKind::Twice)));
     assert!(rt; fault_of(&rt, a, b"la a0, b".as_slice()) == Some((1, AsmKind::NoLabel)));
+}
+
+/// So many lines of one word, and a last line.
+fn fault_behind<H: Abort>(
+    rt: &H,
+    alloc: Global,
+    count: u32,
+    last: &[u8],
+) -> Option<(u32, AsmKind)> {
+    let mut text = Vec::new(alloc);
+    for _ in 0..count {
+        assert!(rt; text.extend_from_slice(b"nop\n").is_ok());
+    }
+    assert!(rt; text.extend_from_slice(last).is_ok());
+    fault_of(rt, alloc, text.as_slice())
+}
+
+/// At most 16,384 words.
+#[test]
+fn limits_words(rt: HostRuntime) {
+    let a = rt.alloc();
+    let many = AsmKind::TooMany;
+    assert!(rt; fault_behind(&rt, a, 16_383, b"li a0, 2047\nlast:".as_slice()).is_none());
+    assert!(rt; fault_behind(&rt, a, 16_383, b"li a0, 2048".as_slice()) == Some((16_384, many)));
+    assert!(rt; fault_behind(&rt, a, 16_384, b"last:\n\nnop".as_slice()) == Some((16_387, many)));
 }
 
 /// Lines of all forms.
