@@ -26,7 +26,7 @@ filled_twice size less image h =
     ∙ append_assoc image (replicate (less - length image) 0) (replicate (size - length image - (less - length image)) 0)
     ∙ ap (λ zeros. image ++ zeros) (replicate-append-replicate (less - length image) (size - length image - (less - length image)) 0 ∙ ap (λ n. replicate n 0) f)
 
-laid_more : (image : List ℕ) (address : ℕ) (bytes : List ℕ) → address + length bytes ≤ length image → length (laid image address bytes) ≡ length image
+pub laid_more : (image : List ℕ) (address : ℕ) (bytes : List ℕ) → address + length bytes ≤ length image → length (laid image address bytes) ≡ length image
 laid_more image address bytes h =
     omega (
       arith,

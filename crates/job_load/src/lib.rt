@@ -6,6 +6,7 @@
 mod code;
 pub mod fault;
 mod image;
+pub mod laws;
 pub mod load;
 mod numbers;
 mod sections;
