@@ -1,5 +1,5 @@
 -- The fault on the first line.
-use Rattle.std.proofs.Common.{ℕ, ◌≡◌, ◌⊎◌, ◌≤◌, ◌<◌, ◌∷◌, ◌++◌, [], Bool, true, false, List, Option, Some, None, nat_lt, inl, inr, refl, sym, ap, arith, if◌then◌else◌}
+use Rattle.std.proofs.Common.{◌≡◌, ◌≤◌, ◌∷◌, ◌++◌, [], Bool, true, false, List, Option, Some, None, nat_lt, inl, inr, refl, arith, if◌then◌else◌}
 use Rattle.std.specs.List.{AllByRecursion, filter_map}
 use Rattle.std.specs.List.{cons_option}
 use Rattle.std.proofs.lemmas.Bool.Decides.{nat_tests}
@@ -53,5 +53,5 @@ first_of test (x ∷ xs) = first_one (test x) (soonest test xs) (filter_map test
 pub first_section : (job : Job) → IsFirst (section_fault job) (section_faults job)
 first_section job =
     first_join (soonest (code_fault job.numbers) job.codes) (soonest (fill_fault job.numbers) job.fills)
-      (filter_map (code_fault job.numbers) job.codes) (filter_map (fill_fault job.numbers) job.fills)
-      (first_of (code_fault job.numbers) job.codes) (first_of (fill_fault job.numbers) job.fills)
+    (filter_map (code_fault job.numbers) job.codes) (filter_map (fill_fault job.numbers) job.fills)
+    (first_of (code_fault job.numbers) job.codes) (first_of (fill_fault job.numbers) job.fills)

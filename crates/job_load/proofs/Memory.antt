@@ -1,11 +1,11 @@
 -- Bytes of memories.
-use Rattle.std.proofs.Common.{ℕ, ◌≡◌, ◌⊎◌, ◌≤◌, ◌<◌, ◌+◌, ◌-◌, ◌∷◌, ◌++◌, ◌&&◌, ◌==◌, ◌∙◌, [], Bool, true, false, List, Option, Some, None, cond, drop, filter, get_or, length, length-append, nat_le, nat_lt, replicate, take, inl, inr, zero, suc, refl, subst, sym, ap, arith, if◌then◌else◌}
+use Rattle.std.proofs.Common.{ℕ, ◌≡◌, ◌≤◌, ◌<◌, ◌+◌, ◌-◌, ◌∷◌, ◌++◌, ◌&&◌, ◌==◌, ◌∙◌, [], Bool, true, false, List, Option, Some, None, cond, drop, get_or, length, length-append, nat_le, nat_lt, replicate, take, zero, suc, refl, subst, sym, ap, arith, if◌then◌else◌}
 use Rattle.std.specs.List.{AllByRecursion}
 use Rattle.std.specs.Option.{option_or, unwrap_or}
 use Rattle.std.proofs.lemmas.Bool.Decides.{nat_tests}
-use Rattle.std.proofs.lemmas.List.{get_or-append_right, get_or_append_left, get_or-drop, get_or-take, length-drop, length-replicate, length-take-le}
+use Rattle.std.proofs.lemmas.List.{get_or-append_right, get_or_append_left, get_or-drop, get_or-take, length-replicate, length-take-le}
 use Rattle.job_text.specs.declared.job.FillLine.{FillLine}
-use Rattle.job_load.specs.Images.{IsWithin, fills_of, laid, memory_of, overlaid}
+use Rattle.job_load.specs.Images.{IsWithin, fills_of, laid, overlaid}
 use Rattle.job_load.specs.Laws.{IsMemory, given_by, last_given}
 use Rattle.job_load.proofs.Images.{laid_more}
 

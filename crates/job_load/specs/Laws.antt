@@ -1,12 +1,12 @@
 -- What the definitions of faults and of memory mean.
-use Rattle.std.specs.Prelude.{ℕ, ◌≡◌, ◌⊎◌, ◌≤◌, ◌<◌, ◌+◌, ◌-◌, ◌++◌, ◌&&◌, List, [], ◌∷◌, length, nat_le, nat_lt, Option, Some, None, slice_index, if◌then◌else◌}
+use Rattle.std.specs.Prelude.{ℕ, ◌≡◌, ◌⊎◌, ◌≤◌, ◌+◌, ◌-◌, ◌++◌, ◌&&◌, List, [], ◌∷◌, length, nat_le, nat_lt, Option, Some, None, slice_index, if◌then◌else◌}
 use Rattle.std.specs.List.{AllByRecursion, filter_map}
 use Rattle.std.specs.Option.{option_or, unwrap_or}
 use Rattle.job_text.specs.declared.job.FillLine.{FillLine}
 use Rattle.job_text.specs.declared.job.Job.{Job}
 use Rattle.job_load.specs.declared.fault.LoadFault.{LoadFault}
-use Rattle.job_load.specs.Faults.{code_fault, fill_fault, section_fault}
-use Rattle.job_load.specs.Images.{IsWithin, fills_of, memory_of}
+use Rattle.job_load.specs.Faults.{code_fault, fill_fault}
+use Rattle.job_load.specs.Images.{fills_of, memory_of}
 
 -- Faults.
 

@@ -11,4 +11,6 @@ pub mod load;
 mod numbers;
 mod sections;
 mod start;
+#[cfg(test)]
+mod tests;
 mod unbuilt;
