@@ -17,16 +17,17 @@ filled_more size image = length-append image (replicate (size - length image) 0)
 pub filled_long : (size : ℕ) (image : List ℕ) → length image ≤ size → length (filled size image) ≡ size
 filled_long size image h = omega (arith, filled_more size image)
 
+padded_twice : (x : ℕ) (front : List ℕ) (more rest whole : ℕ) → more + rest ≡ whole → front ++ replicate more x ++ replicate rest x ≡ front ++ replicate whole x
+padded_twice x front more rest whole e =
+    let joined : replicate more x ++ replicate rest x ≡ replicate (more + rest) x = replicate-append-replicate more rest x in
+    rw (← e, append_assoc, joined) refl
+
 -- filled up to one size and then to another
 pub filled_twice : (size less : ℕ) (image : List ℕ) → less ≤ size → filled size (filled less image) ≡ filled size image
 filled_twice size less image h =
-    let e : size - length (filled less image) ≡ size - length image - (less - length image) = omega (arith, filled_more less image) in
-    let f : less - length image + (size - length image - (less - length image)) ≡ size - length image = omega arith in
-    ap (λ n. filled less image ++ replicate n 0) e
-    ∙ append_assoc image (replicate (less - length image) 0) (replicate (size - length image - (less - length image)) 0)
-    ∙ ap (λ zeros. image ++ zeros) (replicate-append-replicate (less - length image) (size - length image - (less - length image)) 0 ∙ ap (λ n. replicate n 0) f)
+    padded_twice 0 image (less - length image) (size - length (filled less image)) (size - length image) (omega (arith, filled_more less image))
 
-laid_more : (image : List ℕ) (address : ℕ) (bytes : List ℕ) → address + length bytes ≤ length image → length (laid image address bytes) ≡ length image
+pub laid_more : (image : List ℕ) (address : ℕ) (bytes : List ℕ) → address + length bytes ≤ length image → length (laid image address bytes) ≡ length image
 laid_more image address bytes h =
     omega (
       arith,

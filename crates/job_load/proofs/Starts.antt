@@ -1,5 +1,5 @@
 -- Threads and parts at the start.
-use Rattle.std.proofs.Common.{ℕ, ◌≡◌, ◌≤◌, ◌<◌, ◌+◌, ◌-◌, ◌∷◌, ◌++◌, ◌∙◌, [], Bool, true, false, not, List, Option, Some, None, length, get_or, map, nat_lt, replicate, refl, sym, subst, ap, arith, IfOk, if◌then◌else◌}
+use Rattle.std.proofs.Common.{ℕ, ◌≡◌, ◌≤◌, ◌+◌, ◌∷◌, ◌∙◌, [], Bool, true, false, not, List, Some, None, length, map, nat_lt, refl, sym, subst, ap, arith, IfOk, if◌then◌else◌}
 use Rattle.std.specs.List.{AllByRecursion, range_with_len}
 use Rattle.std.specs.declared.result.Result.{Result}
 use Rattle.std.proofs.lemmas.Bool.Decides.{nat_tests}
@@ -10,13 +10,13 @@ use Rattle.tn_base.specs.declared.part.Kind.{Kind}
 use Rattle.tn_base.specs.declared.part.Kind.TheVariants as kind
 use Rattle.tn_base.specs.declared.shape.ShapeNumbers.{ShapeNumbers}
 use Rattle.tn_base.specs.Address.{has_thread, in_tile, tile_threads}
-use Rattle.tn_base.specs.Parts.{kind_of, part_count, parts}
+use Rattle.tn_base.specs.Parts.{kind_of, parts}
 use Rattle.tn_rows.specs.Events.{FitsKind, IsWorld}
-use Rattle.tn_rows.specs.PartView.{PartView, TileV, AbsentV}
+use Rattle.tn_rows.specs.PartView.{PartView, AbsentV}
 use Rattle.tn_rows.specs.WorldView.{WorldView}
 use Rattle.tn_thread.specs.declared.thread.Thread.{Thread}
 use Rattle.tn_thread.specs.Step.{started}
-use Rattle.tn_tile.specs.Kept.{AreStarts, StartsAt, fresh_tile}
+use Rattle.tn_tile.specs.Kept.{AreStarts, fresh_tile}
 use Rattle.tn_tile.specs.Step.{no_thread}
 use Rattle.tn_tile.specs.TileView.{TileView}
 use Rattle.job_text.specs.declared.job.FillLine.{FillLine}
@@ -47,7 +47,7 @@ pub threads_same : (n : ShapeNumbers) (job : Job) (images : List (List ℕ)) (ti
     by_address (thread_over n images) n tile ≡ by_address (thread_start job) n tile
 threads_same n job images tile e are =
     map_same (λ k. thread_over n images (in_tile n tile k)) (λ k. thread_start job (in_tile n tile k)) (range_with_len 0 (tile_threads n))
-      (λ k. thread_same n job.fills images are (in_tile n tile k) ∙ ap (λ m. started m (record { 0 = in_tile n tile k }) (memory_of m.mem job.fills (in_tile n tile k)) None) e)
+    (λ k. thread_same n job.fills images are (in_tile n tile k) ∙ ap (λ m. started m (record { 0 = in_tile n tile k }) (memory_of m.mem job.fills (in_tile n tile k)) None) e)
 
 pub threads_start : (n : ShapeNumbers) (images : List (List ℕ)) (tile : ℕ) → ((k : ℕ) → length (image_at images k) ≤ n.mem) →
     AreStarts n tile (by_address (thread_over n images) n tile)
@@ -72,7 +72,7 @@ pub tile_made : (n : ShapeNumbers) (job : Job) (images : List (List ℕ)) (tile 
     fresh_tile n tile words threads ≡ tile_start job tile
 tile_made n job images tile words threads e are f g =
     let same : threads ≡ by_address (thread_start job) job.numbers tile =
-      g ∙ threads_same n job images tile e are ∙ ap (λ m. by_address (thread_start job) m tile) e in
+    g ∙ threads_same n job images tile e are ∙ ap (λ m. by_address (thread_start job) m tile) e in
     ap (λ m. fresh_tile m tile words threads) e ∙ ap (λ w. fresh_tile job.numbers tile w threads) f ∙ ap (λ all. fresh_tile job.numbers tile (code_of job.codes tile) all) same
 
 pub if_made : {E : Type 0} (result : Result TileView E) (made tile : TileView) → made ≡ tile → IfOk result (λ t. t ≡ made) → IfOk result (λ t. t ≡ tile)

@@ -6,8 +6,11 @@
 mod code;
 pub mod fault;
 mod image;
+pub mod laws;
 pub mod load;
 mod numbers;
 mod sections;
 mod start;
+#[cfg(test)]
+mod tests;
 mod unbuilt;

@@ -1,4 +1,3 @@
-use Rattle.std.proofs.Common.{◌≡◌}
 use Rattle.job_load.proofs.Starts.{fills_within, world_made}
 use Rattle.job_load.proofs.start.start_of.Goals as goal
 
