@@ -1,13 +1,16 @@
 -- The receivers of a message stand among the places of their tile.
-use Rattle.std.proofs.Common.{ℕ, ◌≡◌, ◌<◌, ◌≤◌, ◌+◌, ◌*◌, ◌%◌, ◌^◌, ◌&&◌, true, cond, ltb, zero, suc, refl, ap, ◌∙◌, arith}
+use Rattle.std.proofs.Common.{ℕ, ◌≡◌, ◌<◌, ◌≤◌, ◌+◌, ◌-◌, ◌*◌, ◌/◌, ◌%◌, ◌^◌, ◌&&◌, Bool, true, false, cond, ltb, zero, suc, refl, sym, ap, ◌∙◌, arith, inl, inr, IsTrue}
 use Rattle.std.proofs.Math.Nat.{pow-le-pow_right}
 use Rattle.std.proofs.Math.Pow.{pow-lt}
-use Rattle.std.proofs.lemmas.Bool.{and_parts, ltb-true}
-use Rattle.std.proofs.lemmas.Nat.{mul-add-lt, mul-le, pow-add}
+use Rattle.std.specs.Int.{bit_at}
+use Rattle.std.proofs.lemmas.Bool.{and_parts, cases_lt, ltb-true}
+use Rattle.std.proofs.lemmas.Nat.{mul-add-lt, mul-le, pow-add, pow_pos, shr-shr, shr_split}
+use Rattle.std.proofs.lemmas.Nat.Bits.{bit_at_above, bit_at_cat_high, bit_at_cat_low}
 use Rattle.tn_base.specs.declared.shape.ShapeNumbers.{ShapeNumbers}
-use Rattle.tn_base.specs.Address.{tile_threads}
+use Rattle.tn_base.specs.Address.{has_thread, place_in_tile, tile_threads}
 use Rattle.tn_base.specs.Mask.{names_core, names_threads}
 use Rattle.tn_base.specs.Shape.{WithinLimits}
+use Rattle.tn_base.proofs.TilePlaces.{fields}
 use Rattle.tn_tile.specs.Receivers.{core_bits, packed}
 
 -- the digits of four cores, of which the first c are there, in base 2 ^ t
@@ -102,3 +105,93 @@ one_place n k limits h =
     let below : 2 ^ k < 2 ^ tile_threads n = pow-lt h in
     let small : 2 ^ k < 2 ^ 64 = within_word (tile_threads n) (2 ^ k) (few_places n limits) below in
     (omega arith, below)
+
+-- the bits of four digits in base 2 ^ t
+horner : (p a0 a1 a2 a3 : ℕ) → a0 + a1 * p + a2 * (p * p) + a3 * (p * p * p) ≡ ((a3 * p + a2) * p + a1) * p + a0
+horner p a0 a1 a2 a3 = omega arith
+
+first_bit : (hi t b i : ℕ) → i < t → bit_at (hi * 2 ^ t + b) i ≡ bit_at b i
+first_bit hi t b i h = bit_at_cat_low hi t b i h
+
+later_bit : (hi t b i : ℕ) → b < 2 ^ t → bit_at (hi * 2 ^ t + b) (t + i) ≡ bit_at hi i
+later_bit hi t b i h = let e : t + i - t ≡ i = omega arith in bit_at_cat_high hi t b (t + i) h (omega arith) ∙ ap (bit_at hi) e
+
+packed_is : (n : ShapeNumbers) (m : ℕ) → packed n m ≡ ((core_bits m 3 * 2 ^ n.threads + core_bits m 2) * 2 ^ n.threads + core_bits m 1) * 2 ^ n.threads + core_bits m 0
+packed_is n m = rw (twice n.threads, thrice n.threads) (horner (2 ^ n.threads) (core_bits m 0) (core_bits m 1) (core_bits m 2) (core_bits m 3))
+
+one_at_most : (there : Bool) (a t : ℕ) → a < cond there (2 ^ t) 1 → a < 2 ^ t
+one_at_most true a t h = h
+one_at_most false a t h = let some = pow_pos t in omega arith
+
+-- the digit of each core is below 2 ^ threads
+pub record Rows (n : ShapeNumbers) (m : ℕ) : Type 0 where
+  pub each : (core : ℕ) → core < 4 → core_bits m core < 2 ^ n.threads
+
+rows : (n : ShapeNumbers) (m : ℕ) → names_threads n m ≡ true → Rows n m
+rows n m h =
+    let last = and_parts (names_core n m 0 && names_core n m 1 && names_core n m 2) (names_core n m 3) h in
+    let third = and_parts (names_core n m 0 && names_core n m 1) (names_core n m 2) last.0 in
+    let second = and_parts (names_core n m 0) (names_core n m 1) third.0 in
+    let by = λ (core : ℕ) (e : names_core n m core ≡ true). one_at_most (ltb core n.cores) (core_bits m core) n.threads (core_below n m core e) in
+    record {
+      each = λ core few. elim (cases_lt core 1) [
+        | inl a ↦ let e : core ≡ 0 = omega arith in rw e (by 0 second.0)
+        | inr a ↦ elim (cases_lt core 2) [
+          | inl b ↦ let e : core ≡ 1 = omega arith in rw e (by 1 second.1)
+          | inr b ↦ elim (cases_lt core 3) [
+            | inl d ↦ let e : core ≡ 2 = omega arith in rw e (by 2 third.1)
+            | inr d ↦ let e : core ≡ 3 = omega arith in rw e (by 3 last.1)
+          ]
+        ]
+      ]
+    }
+
+-- the bit of a thread of a core
+digit_bit : (n : ShapeNumbers) (m core i : ℕ) → Rows n m → core < 4 → i < n.threads → bit_at (packed n m) (core * n.threads + i) ≡ bit_at (core_bits m core) i
+digit_bit n m core i r few h =
+    let t = n.threads in
+    let a0 = core_bits m 0 in
+    let a1 = core_bits m 1 in
+    let a2 = core_bits m 2 in
+    let a3 = core_bits m 3 in
+    let two = a3 * 2 ^ t + a2 in
+    let one = two * 2 ^ t + a1 in
+    rw (packed_is n m) (elim (cases_lt core 1) [
+      | inl a ↦ let e : core ≡ 0 = omega arith in let k : core * t + i ≡ i = rw e (omega arith) in rw (k, e) (first_bit one t a0 i h)
+      | inr a ↦ elim (cases_lt core 2) [
+        | inl b ↦
+            let e : core ≡ 1 = omega arith in
+            let k : core * t + i ≡ t + i = rw e (omega arith) in
+            rw (k, e) (later_bit one t a0 i (r.each 0 (omega arith)) ∙ first_bit two t a1 i h)
+        | inr b ↦ elim (cases_lt core 3) [
+          | inl d ↦
+              let e : core ≡ 2 = omega arith in
+              let k : core * t + i ≡ t + (t + i) = rw e (omega arith) in
+              rw (k, e) (later_bit one t a0 (t + i) (r.each 0 (omega arith)) ∙ later_bit two t a1 i (r.each 1 (omega arith)) ∙ first_bit a3 t a2 i h)
+          | inr d ↦
+              let e : core ≡ 3 = omega arith in
+              let k : core * t + i ≡ t + (t + (t + i)) = rw e (omega arith) in
+              rw (k, e) (later_bit one t a0 (t + (t + i)) (r.each 0 (omega arith)) ∙ later_bit two t a1 (t + i) (r.each 1 (omega arith)) ∙ later_bit a3 t a2 i (r.each 2 (omega arith)))
+        ]
+      ]
+    ])
+
+-- a bit of a core's sixteen bits is one of the mask's
+row_bit : (m core i : ℕ) → i < 16 → bit_at (core_bits m core) i ≡ bit_at m (16 * core + i)
+row_bit m core i h =
+    let x = m / 2 ^ (16 * core) in
+    sym (bit_at_cat_low (x / 2 ^ 16) 16 (x % 2 ^ 16) i h) ∙ ap (λ y. bit_at y i) (shr_split x 16) ∙ ap (λ y. y % 2) (shr-shr m (16 * core) i)
+
+-- a thread's bit among the places is its bit in the mask
+pub receiver_bit : (n : ShapeNumbers) (m a : ℕ) → WithinLimits n → names_threads n m ≡ true → IsTrue (has_thread n a) → bit_at (packed n m) (place_in_tile n a) ≡ bit_at m (a % 64)
+receiver_bit n m a limits names h =
+    let f = fields n a h in
+    let here : a % 16 < n.threads = f.thread in
+    let there : a / 16 % 4 < n.cores = f.core in
+    let cores = limits.cores.1 in
+    let threads = limits.threads.1 in
+    let place : 16 * (a / 16 % 4) + a % 16 ≡ a % 64 = omega arith in
+    digit_bit n m (a / 16 % 4) (a % 16) (rows n m names) (omega arith) here ∙ row_bit m (a / 16 % 4) (a % 16) (omega arith) ∙ ap (bit_at m) place
+
+pub no_more_bits : (n : ShapeNumbers) (m k : ℕ) → WithinLimits n → names_threads n m ≡ true → tile_threads n ≤ k → bit_at (packed n m) k ≡ 0
+no_more_bits n m k limits names h = bit_at_above (packed n m) (tile_threads n) k (packed_below n m limits names) h

@@ -1,13 +1,13 @@
 -- Turns: the longest one, and none.
-use Rattle.std.proofs.Common.{◌≡◌, ℕ, ◌<◌, ◌≤◌, ◌&&◌, zero, suc, Bool, true, false, cond, Some, None, is_some, refl, arith, inl, inr, leb}
+use Rattle.std.proofs.Common.{◌≡◌, ℕ, ◌+◌, ◌-◌, ◌<◌, ◌≤◌, ◌&&◌, zero, suc, Bool, true, false, cond, Some, None, is_some, refl, ap, ◌∙◌, arith, inl, inr, leb}
 use Rattle.std.specs.declared.option.Option.{Option}
-use Rattle.std.proofs.lemmas.Bool.{and_left, and_right, cases_lt, cond-false, le-leb, lt-leb}
+use Rattle.std.proofs.lemmas.Bool.{and_left, and_parts, and_right, cases_lt, cond-false, le-leb, leb-true, lt-leb}
 use Rattle.tn_base.specs.Address.{place_in_tile}
 use Rattle.tn_tile.specs.Rows.{can_count, is_here, turn_row}
 use Rattle.tn_tile.specs.Step.{can_step, stepped, steps_of}
 use Rattle.tn_tile.specs.TileView.{TileView}
 use Rattle.tn_tile.specs.Turns.{StepsUpTo}
-use Rattle.tn_tile.proofs.Steps.{steps_none, steps_stop}
+use Rattle.tn_tile.proofs.Steps.{steps_fewer, steps_none, steps_stop, taken}
 
 cond_some : {X : Type 0} (b : Bool) (x : X) → is_some (cond b (Some x) None) ≡ b
 cond_some true x = refl
@@ -58,3 +58,22 @@ one_step k v = cond_some (can_step k v) (stepped k v)
 
 pub one_turn : (a : ℕ) (v : TileView) → is_here a v ≡ true → can_count v ≡ true → 1 ≤ v.shape.turn → is_some (turn_row a 1 v) ≡ can_step (place_in_tile v.shape a) v
 one_turn a v here counts turn = rw (here, counts, le-leb 1 v.shape.turn turn) (one_step (place_in_tile v.shape a) v)
+
+some_is : {X : Type 0} (o : Option X) → is_some o ≡ true → (x : X) × (o ≡ Some x)
+some_is None e = cc e
+some_is (Some x) e = (x, refl)
+
+-- where a turn is possible, each shorter one is
+pub shorter_turn : (a n m : ℕ) (v : TileView) → is_some (turn_row a n v) ≡ true → 1 ≤ m → m ≤ n → is_some (turn_row a m v) ≡ true
+shorter_turn a n m v some low high =
+    let k = place_in_tile v.shape a in
+    let whole = some_is (turn_row a n v) some in
+    let parts = taken (is_here a v && leb 1 n && leb n v.shape.turn && can_count v) (steps_of k n v) whole.0 whole.1 in
+    let tests = and_parts (is_here a v && leb 1 n && leb n v.shape.turn) (can_count v) parts.0 in
+    let most = and_parts (is_here a v && leb 1 n) (leb n v.shape.turn) tests.0 in
+    let here = and_parts (is_here a v) (leb 1 n) most.0 in
+    let within : n ≤ v.shape.turn = leb-true n v.shape.turn most.1 in
+    let count : (n - m) + m ≡ n = omega arith in
+    let steps : steps_of k ((n - m) + m) v ≡ Some whole.0 = ap (λ i. steps_of k i v) count ∙ parts.1 in
+    let fewer = steps_fewer k m (n - m) v whole.0 steps in
+    ap is_some (turn_is a m v fewer.0 here.0 tests.1 low (omega arith) fewer.1)

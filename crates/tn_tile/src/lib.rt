@@ -7,6 +7,7 @@
 pub mod buffers;
 mod copy;
 pub mod deliver;
+pub mod laws;
 mod receivers;
 mod rest;
 mod sight;
