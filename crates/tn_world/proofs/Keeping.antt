@@ -1,5 +1,5 @@
 -- An event keeps what the parts of a machine are.
-use Rattle.std.proofs.Common.{◌≡◌, ℕ, zero, suc, ◌==◌, Bool, true, false, cond, List, None, Some, refl, sym, ap, ◌∙◌, get_or, set, length, ◌<◌, ◌⊎◌, inl, inr, ◌≢◌, is_none, option_map, count_ones, arith, slice_set}
+use Rattle.std.proofs.Common.{◌≡◌, ℕ, zero, suc, ◌==◌, Bool, true, false, cond, List, None, Some, refl, ◌∙◌, get_or, set, length, ◌<◌, ◌⊎◌, inl, inr, ◌≢◌, is_none, option_map, count_ones, arith, slice_set}
 use Rattle.std.specs.declared.option.Option.{Option}
 use Rattle.std.proofs.lemmas.List.{get_or-set_other, length-set}
 use Rattle.std.specs.List.{slice_get}
@@ -17,7 +17,7 @@ use Rattle.tn_base.specs.declared.part.Kind.TheVariants as kind
 use Rattle.tn_base.specs.declared.port.Port.{Port}
 use Rattle.tn_base.specs.declared.port.Port.TheVariants as port
 use Rattle.tn_base.specs.declared.shape.ShapeNumbers.{ShapeNumbers}
-use Rattle.tn_base.specs.Parts.{kind_of, part_count}
+use Rattle.tn_base.specs.Parts.{kind_of}
 use Rattle.tn_base.specs.Address.{place_in_tile}
 use Rattle.tn_rows.specs.Events.{after, tile_row, FitsKind, IsWorld}
 use Rattle.tn_rows.specs.PartView.{PartView, TileV, AbsentV}
@@ -25,7 +25,7 @@ use Rattle.tn_rows.specs.WorldView.{WorldView}
 use Rattle.tn_slots.specs.Pool.{first_free, put_at}
 use Rattle.tn_thread.specs.declared.thread.Thread.{Thread}
 use Rattle.tn_tile.specs.Receivers.{alive_of, dead_of, receivers}
-use Rattle.tn_tile.specs.Rows.{buffer_at, can_count, counted, deliver_row, delivered_from, is_here, passed, passed_by, received, sent_on, stored, stored_at, turn_row, with_buffer}
+use Rattle.tn_tile.specs.Rows.{buffer_at, counted, deliver_row, delivered_from, passed_by, received, sent_on, stored, stored_at, turn_row, with_buffer}
 use Rattle.tn_tile.specs.Step.{acted, can_step, pending_at, step_at_place, stepped, steps_of, thread_at, with_thread}
 use Rattle.tn_tile.specs.TileView.{TileView}
 

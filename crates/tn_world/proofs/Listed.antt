@@ -1,13 +1,12 @@
 -- Machines in which no thread can do anything, and the first event that is enabled.
-use Rattle.std.proofs.Common.{◌≡◌, ℕ, zero, suc, ◌+◌, ◌<◌, ◌≤◌, ◌++◌, ◌∷◌, [], Bool, true, false, cond, IsTrue, IsSome, List, length, map, None, Some, refl, sym, subst, ap, ◌∙◌, arith, ◌⊎◌, inl, inr, MatchOption}
+use Rattle.std.proofs.Common.{◌≡◌, ℕ, zero, suc, ◌+◌, ◌<◌, ◌≤◌, ◌++◌, [], Bool, true, false, IsTrue, IsSome, List, map, None, Some, refl, sym, subst, ap, arith, inl, inr}
 use Rattle.std.specs.declared.option.Option.{Option}
 use Rattle.std.specs.List.{range_with_len, slice_get}
 use Rattle.tn_base.specs.declared.event.Event.{Event}
 use Rattle.tn_base.specs.declared.event.Event.TheVariants as event
 use Rattle.tn_base.specs.declared.ids.ThreadId.{ThreadId}
 use Rattle.tn_base.specs.declared.shape.ShapeNumbers.{ShapeNumbers}
-use Rattle.tn_base.specs.Address.{has_thread, thread_at, tile_of, tile_place}
-use Rattle.tn_base.specs.Parts.{tile_part}
+use Rattle.tn_base.specs.Address.{has_thread, thread_at}
 use Rattle.tn_base.specs.Shape.{thread_count}
 use Rattle.std.proofs.Common.{append-nil, is_some, option_and_then, option_map}
 use Rattle.std.proofs.lemmas.Bool.{cases_order}
@@ -116,7 +115,7 @@ none_is (Some x) e = cc e
 more : (P : ℕ → Type 0) (i : ℕ) → ((k : ℕ) → k < i → P k) → P i → (k : ℕ) → k < i + 1 → P k
 more P i all here k h = elim (cases_order k i) [
   | inl e ↦ rw e here
-  | inr less ↦ elim less [ | inl down ↦ all k down | inr up ↦ absurd (omega arith) ]
+  | inr less ↦ elim less [ inl down ↦ all k down | inr up ↦ absurd (omega arith) ]
 ]
 
 pub more_turns : (w : WorldView) (t : ThreadId) (i : ℕ) → t.0 ≡ thread_at w.shape i → is_some (happened (event.Turn t 1) w) ≡ false → NoTurn w i → NoTurn w (i + 1)

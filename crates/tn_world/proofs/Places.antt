@@ -1,5 +1,5 @@
 -- Events by the part that they are on.
-use Rattle.std.proofs.Common.{◌≡◌, ℕ, Bool, true, false, List, None, Some, refl, sym, get_or, set, length, ◌<◌, MatchResult}
+use Rattle.std.proofs.Common.{◌≡◌, ℕ, Bool, None, Some, refl, get_or, set, length, ◌<◌, MatchResult}
 use Rattle.std.specs.declared.option.Option.{Option}
 use Rattle.std.specs.List.{slice_get}
 use Rattle.std.proofs.lemmas.List.{set-get_or}

@@ -1,5 +1,5 @@
 -- Turns of a number of steps.
-use Rattle.std.proofs.Common.{◌≡◌, ℕ, zero, suc, ◌<◌, ◌≤◌, ◌&&◌, Bool, true, false, cond, IsTrue, None, Some, refl, arith, leb}
+use Rattle.std.proofs.Common.{◌≡◌, ℕ, zero, suc, ◌<◌, ◌≤◌, ◌&&◌, Bool, true, false, cond, None, Some, refl, arith, leb}
 use Rattle.std.specs.declared.option.Option.{Option}
 use Rattle.std.proofs.lemmas.Bool.Decides.{nat_tests}
 use Rattle.tn_base.specs.Address.{place_in_tile}
@@ -45,7 +45,6 @@ all_four false b c d e = cc e
 
 one_fits : (m turn : ℕ) → leb (suc m) turn ≡ true → leb 1 turn ≡ true
 one_fits m turn e = grind (arith, nat_tests)
-
 
 -- where the thread cannot make one step, it makes no turn
 turn_one : (a : ℕ) (v : TileView) → is_here a v ≡ true → leb 1 v.shape.turn ≡ true → can_count v ≡ true → can_step (place_in_tile v.shape a) v ≡ true → turn_row a 1 v ≡ Some (stepped (place_in_tile v.shape a) v)

@@ -1,5 +1,5 @@
 -- What turns, and runs of them, leave.
-use Rattle.std.specs.Prelude.{ℕ, ◌≡◌, ◌≤◌, ◌<◌, ◌⊎◌, List, [], ◌∷◌, length, Option, Some, None, IsSome, MatchOption}
+use Rattle.std.specs.Prelude.{ℕ, ◌≡◌, ◌≤◌, ◌<◌, ◌⊎◌, List, [], ◌∷◌, length, Some, None, IsSome, MatchOption}
 use Rattle.tn_base.specs.declared.event.Event.{Event}
 use Rattle.tn_base.specs.declared.event.Event.TheVariants as event
 use Rattle.tn_base.specs.declared.ids.ThreadId.{ThreadId}

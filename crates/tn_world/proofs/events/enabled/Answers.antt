@@ -1,8 +1,6 @@
-use Rattle.std.proofs.Common.{◌≡◌, ◌<◌, arith, ap, sym, ◌∙◌}
-use Rattle.tn_base.specs.declared.shape.ShapeNumbers.{ShapeNumbers}
-use Rattle.tn_base.specs.Shape.{thread_count}
+use Rattle.std.proofs.Common.{arith, ap, sym, ◌∙◌}
 use Rattle.tn_rows.specs.WorldView.{WorldView}
-use Rattle.tn_world.proofs.Listed.{NoDelivery, NoTurn, first_delivery, first_turn, more_deliveries, more_turns, none_listed}
+use Rattle.tn_world.proofs.Listed.{first_delivery, first_turn, more_deliveries, more_turns, none_listed}
 use Rattle.tn_world.proofs.events.enabled.Goals as goal
 
 pub returns-then-can_turn : goal.returns-then-can_turn

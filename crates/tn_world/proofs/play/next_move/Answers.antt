@@ -1,4 +1,4 @@
-use Rattle.std.proofs.Common.{◌≡◌, arith, ap, sym, ◌∙◌, refl}
+use Rattle.std.proofs.Common.{arith, ap, ◌∙◌}
 use Rattle.tn_rows.specs.WorldView.{WorldView}
 use Rattle.tn_world.proofs.Listed.{more_stuck, rests}
 use Rattle.tn_world.proofs.play.next_move.Goals as goal

@@ -1,4 +1,4 @@
-use Rattle.std.proofs.Common.{◌≡◌, ◌<◌, ◌≤◌, arith, length, sym, ◌∙◌}
+use Rattle.std.proofs.Common.{◌<◌, ◌≤◌, arith, length, sym, ◌∙◌}
 use Rattle.tn_world.proofs.Calm.{calm_on, on_error, played_final, played_limit, played_rest, reached}
 use Rattle.tn_world.proofs.play.play.Goals as goal
 

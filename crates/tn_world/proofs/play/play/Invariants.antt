@@ -1,4 +1,4 @@
-use Rattle.std.proofs.Common.{◌≡◌, ◌≤◌, ◌-◌, length}
+use Rattle.std.proofs.Common.{◌≤◌, ◌-◌, length}
 use Rattle.tn_world.proofs.Calm.{Calm}
 use Rattle.tn_world.proofs.play.play.Given as goal
 

@@ -1,4 +1,4 @@
-use Rattle.std.proofs.Common.{◌≡◌, arith, sym}
+use Rattle.std.proofs.Common.{arith, sym}
 use Rattle.tn_base.specs.declared.event.Event.TheVariants as event
 use Rattle.tn_tile.specs.Turns.{moved}
 use Rattle.tn_rows.specs.WorldView.{WorldView}

@@ -1,4 +1,4 @@
-use Rattle.std.proofs.Common.{◌≡◌, arith, sym}
+use Rattle.std.proofs.Common.{arith, sym}
 use Rattle.tn_rows.specs.WorldView.{WorldView}
 use Rattle.tn_world.proofs.Places.{At, turns_keeps, turns_world}
 use Rattle.tn_world.proofs.world.World.turn.Goals as goal
