@@ -13,6 +13,7 @@ use Rattle.tn_rows.specs.WorldView.{WorldView}
 use Rattle.tn_thread.specs.declared.state.ThreadState.{ThreadState}
 use Rattle.tn_thread.specs.declared.state.ThreadState.TheVariants as state
 use Rattle.tn_thread.specs.declared.thread.Thread.{Thread}
+use Rattle.tn_tile.specs.Rows.{is_here}
 use Rattle.tn_tile.specs.Still.{has_live, is_still}
 use Rattle.tn_tile.specs.Step.{thread_at}
 
@@ -32,7 +33,7 @@ abbrev pub ended_with : ℕ → ThreadId → Thread → Option Outcome
 ended_with fuel t thread = ended_by t thread.state (thread.steps == fuel)
 
 abbrev pub ended_on : ThreadId → PartView → Option Outcome
-ended_on t (TileV v) = ended_with v.shape.fuel t (thread_at v (place_in_tile v.shape t.0))
+ended_on t (TileV v) = if is_here t.0 v then ended_with v.shape.fuel t (thread_at v (place_in_tile v.shape t.0)) else None
 ended_on t AbsentV = None
 
 -- how a run ends with an event after which the machine is this one, where the event is final

@@ -2,38 +2,29 @@
 use Rattle.std.specs.Prelude.{◌≡◌, ℕ, List, [], None, Some}
 use Rattle.std.specs.declared.result.Result.{Result}
 use Rattle.std.specs.declared.result.Result.TheVariants.{Ok, Err}
+use Rattle.job_load.specs.declared.fault.LoadFault.{LoadFault}
+use Rattle.job_load.specs.Loaded.{loaded}
+use Rattle.job_load.specs.Names.{name_of_text}
+use Rattle.job_text.specs.declared.job.Job.{Job}
+use Rattle.job_text.specs.declared.job.JobFault.{JobFault}
+use Rattle.job_text.specs.Text.{job_of}
 use Rattle.tn_base.specs.declared.event.Outcome.{Outcome}
-use Rattle.tn_base.specs.declared.shape.ShapeNumbers.{ShapeNumbers}
+use Rattle.tn_rows.specs.Ends.{IsOutcome}
+use Rattle.tn_rows.specs.Runs.{Run}
+use Rattle.tn_rows.specs.WorldView.{WorldView}
 use Rattle.tn_text.specs.Lines.{lines_of}
-use Rattle.tn_run.specs.declared.job.Refusal.{Refusal}
 use Rattle.tn_run.specs.declared.status.Status.{Status}
-use Rattle.tn_run.specs.Job.{job_of}
 use Rattle.tn_run.specs.Kept.{KeptView}
-use Rattle.tn_run.specs.Machine.{Machine}
-use Rattle.tn_run.specs.Plain.{Plain}
 use Rattle.tn_run.specs.Report.{refusal_text, report_text}
-use Rattle.tn_run.specs.World.{machine_start, Runs, IsOutcome}
 
--- the numbers of a job in the plain form: one core of so many threads, and the default settings
-abbrev pub plain_numbers : ℕ → ShapeNumbers
-plain_numbers threads = record {
-  version = 1;
-  boards_x = 1;
-  boards_y = 1;
-  tiles_x = 1;
-  tiles_y = 1;
-  cores = 1;
-  threads = threads;
-  slots = 64;
-  link = 4;
-  mem = 4096;
-  fuel = 1000000;
-  turn = 16;
-}
+-- the machine of what was read, at its start, or the first fault
+abbrev pub machine_by : Result Job JobFault → Result WorldView LoadFault
+machine_by (Ok job) = loaded job
+machine_by (Err fault) = Err (record { line = fault.line; kind = name_of_text fault.kind })
 
--- the machine of a job, at its start
-abbrev pub start_of : Plain → Machine
-start_of job = machine_start (plain_numbers job.threads) job.words
+-- the machine of an input, at its start, or the first fault
+abbrev pub machine_of : List ℕ → Result WorldView LoadFault
+machine_of input = machine_by (job_of (lines_of input))
 
 -- the status of an outcome
 abbrev pub status_of : Outcome → Status
@@ -43,27 +34,27 @@ status_of (Outcome.BadKey key) = Status.BadKey
 status_of (Outcome.Spent thread) = Status.Spent
 status_of Outcome.Jammed = Status.Jammed
 
--- the kept history is a run of the job's machine to its end, and the status and the text tell how it ended
-pub record IsRunOf (job : Plain) (kept : KeptView) (status : Status) (text : List ℕ) : Type 0 where
-  pub start : kept.start ≡ Some (start_of job)
-  pub end : Machine
+-- the kept history is a run of the machine to its end, and the status and the text tell how it ended
+pub record IsRunOf (start : WorldView) (kept : KeptView) (status : Status) (text : List ℕ) : Type 0 where
+  pub kept_start : kept.start ≡ Some start
+  pub end : WorldView
   pub outcome : Outcome
-  pub run : Runs (start_of job) kept.history end
+  pub run : Run start kept.history end
   pub ended : IsOutcome kept.history end outcome
   pub status_is : status ≡ status_of outcome
   pub text_is : text ≡ report_text end outcome
 
 -- the job is refused, and nothing is kept
-pub record IsRefusal (refusal : Refusal) (kept : KeptView) (status : Status) (text : List ℕ) : Type 0 where
+pub record IsRefusal (fault : LoadFault) (kept : KeptView) (status : Status) (text : List ℕ) : Type 0 where
   pub start : kept.start ≡ None
   pub history : kept.history ≡ []
   pub status_is : status ≡ Status.Refused
-  pub text_is : text ≡ refusal_text refusal
+  pub text_is : text ≡ refusal_text fault
 
-abbrev pub IsAnswerOf : Result Plain Refusal → KeptView → Status → List ℕ → Type 0
-IsAnswerOf (Err refusal) kept status text = IsRefusal refusal kept status text
-IsAnswerOf (Ok job) kept status text = IsRunOf job kept status text
+abbrev pub IsAnswerOf : Result WorldView LoadFault → KeptView → Status → List ℕ → Type 0
+IsAnswerOf (Err fault) kept status text = IsRefusal fault kept status text
+IsAnswerOf (Ok start) kept status text = IsRunOf start kept status text
 
 -- the status and the text are the answer to the input, by what is kept
 abbrev pub IsAnswer : List ℕ → KeptView → Status → List ℕ → Type 0
-IsAnswer input kept status text = IsAnswerOf (job_of (lines_of input)) kept status text
+IsAnswer input kept status text = IsAnswerOf (machine_of input) kept status text

@@ -1,8 +1,8 @@
 -- What is kept of a call, as contracts see it.
 use Rattle.std.specs.Prelude.{List, Option}
 use Rattle.tn_base.specs.declared.event.Event.{Event}
-use Rattle.tn_run.specs.Machine.{Machine}
+use Rattle.tn_rows.specs.WorldView.{WorldView}
 
 pub record KeptView : Type 0 where
-  pub start : Option Machine
+  pub start : Option WorldView
   pub history : List Event

@@ -1,12 +1,6 @@
 pub mod Answer
-pub mod Gives
-pub mod Job
 pub mod Kept
-pub mod Machine
 pub mod Number
-pub mod Plain
 pub mod Report
-pub mod Step
 pub mod Top
 pub mod Words
-pub mod World

@@ -1,24 +1,22 @@
 -- What is written.
-use Rattle.std.specs.Prelude.{ℕ, ◌+◌, List, [], ◌++◌, ◌∷◌, codes, decimal}
+use Rattle.std.specs.Prelude.{ℕ, ◌+◌, ◌==◌, List, [], ◌++◌, ◌∷◌, codes, decimal, sum_by, if◌then◌else◌}
 use Rattle.tn_base.specs.declared.event.Outcome.{Outcome}
 use Rattle.tn_base.specs.declared.event.Trap.{Trap}
 use Rattle.tn_base.specs.declared.event.Trap.TheVariants.{BadInstr, BadFetch, Misaligned, BadAddress, BadCsr, BadDest, SendBusy, RecvEmpty, BadFree, Environment, BadPin, BadLocalKey}
+use Rattle.tn_base.specs.declared.shape.ShapeNumbers.{ShapeNumbers}
+use Rattle.tn_base.specs.Address.{in_tile}
+use Rattle.tn_rows.specs.PartView.{PartView, TileV, AbsentV}
+use Rattle.tn_rows.specs.WorldView.{WorldView}
 use Rattle.tn_text.specs.Hex.{hex_word_text}
-use Rattle.tn_run.specs.declared.machine.Thread.{Thread}
-use Rattle.tn_run.specs.declared.machine.ThreadState.{ThreadState}
-use Rattle.tn_run.specs.declared.machine.ThreadState.TheVariants.{Run, Dead, Trapped}
-use Rattle.tn_run.specs.declared.job.Refusal.{Refusal}
-use Rattle.tn_run.specs.declared.job.JobKind.{JobKind}
-use Rattle.tn_run.specs.declared.job.JobKind.TheVariants.{Header, UnsupportedYet}
-use Rattle.tn_run.specs.Machine.{Machine}
-
-abbrev pub kind_text : JobKind → List ℕ
-kind_text Header = codes "Header"
-kind_text UnsupportedYet = codes "UnsupportedYet"
+use Rattle.tn_thread.specs.declared.state.ThreadState.{ThreadState}
+use Rattle.tn_thread.specs.declared.state.ThreadState.TheVariants as state
+use Rattle.tn_thread.specs.declared.thread.Thread.{Thread}
+use Rattle.job_load.specs.declared.fault.LoadFault.{LoadFault}
+use Rattle.job_load.specs.Names.{fault_text}
 
 -- `refused LINE KIND`
-abbrev pub refusal_text : Refusal → List ℕ
-refusal_text r = codes "refused " ++ decimal r.line ++ codes " " ++ kind_text r.kind ++ codes "\n"
+abbrev pub refusal_text : LoadFault → List ℕ
+refusal_text fault = codes "refused " ++ decimal fault.line ++ codes " " ++ fault_text fault.kind ++ codes "\n"
 
 abbrev pub trap_text : Trap → List ℕ
 trap_text BadInstr = codes "BadInstr"
@@ -36,14 +34,38 @@ trap_text BadLocalKey = codes "BadLocalKey"
 
 -- `exit THREAD VALUE` of a thread that ended
 abbrev pub exit_text : ℕ → ThreadState → List ℕ
-exit_text id Run = []
-exit_text id (Dead value) = codes "exit " ++ decimal id ++ codes " " ++ decimal value ++ codes "\n"
-exit_text id (Trapped trap) = []
+exit_text address state.Run = []
+exit_text address (state.Wait waits) = []
+exit_text address (state.Idle vote) = []
+exit_text address (state.Answered value) = []
+exit_text address (state.Dead value) = codes "exit " ++ decimal address ++ codes " " ++ decimal value ++ codes "\n"
+exit_text address (state.Trapped trap) = []
 
--- those of the threads from an address on
-abbrev pub exits_text : ℕ → List Thread → List ℕ
-exits_text id [] = []
-exits_text id (t ∷ ts) = exit_text id t.state ++ exits_text (id + 1) ts
+-- those of the threads of a tile from a place on
+abbrev pub exits_from : ShapeNumbers → ℕ → ℕ → List Thread → List ℕ
+exits_from n tile place [] = []
+exits_from n tile place (t ∷ ts) = exit_text (in_tile n tile place) t.state ++ exits_from n tile (place + 1) ts
+
+abbrev pub part_exits : PartView → List ℕ
+part_exits (TileV v) = exits_from v.shape v.tile 0 v.threads
+part_exits AbsentV = []
+
+-- those of all threads, by address
+abbrev pub exits_text : List PartView → List ℕ
+exits_text [] = []
+exits_text (p ∷ ps) = part_exits p ++ exits_text ps
+
+abbrev pub part_dropped : PartView → ℕ
+part_dropped (TileV v) = v.dropped
+part_dropped AbsentV = 0
+
+-- how many letters were dropped since their receivers were dead
+abbrev pub dropped_in : List PartView → ℕ
+dropped_in parts = sum_by part_dropped parts
+
+-- `dropped N`, where any were
+abbrev pub dropped_text : ℕ → List ℕ
+dropped_text count = if count == 0 then [] else codes "dropped " ++ decimal count ++ codes "\n"
 
 -- the line that tells the outcome
 abbrev pub outcome_text : Outcome → List ℕ
@@ -54,5 +76,5 @@ outcome_text (Outcome.Spent thread) = codes "spent " ++ decimal thread.0 ++ code
 outcome_text Outcome.Jammed = codes "jammed\n"
 
 -- the report of a run that ended so with this machine
-abbrev pub report_text : Machine → Outcome → List ℕ
-report_text end outcome = exits_text 0 end.threads ++ outcome_text outcome
+abbrev pub report_text : WorldView → Outcome → List ℕ
+report_text end outcome = exits_text end.parts ++ dropped_text (dropped_in end.parts) ++ outcome_text outcome

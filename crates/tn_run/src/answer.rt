@@ -1,15 +1,27 @@
 //! From an input to its answer.
-ghost use Rattle.std.specs.Prelude.{◌≡◌, ◌≤◌, IfOk, length, None, []};
-ghost use Rattle.tn_run.specs.Answer.{IsAnswer, IsRunOf, start_of};
+ghost use Rattle.std.specs.Prelude.{⊤, ◌≡◌, ◌≤◌, IfOk, MatchOption, length, None, []};
+ghost use Rattle.job_load.specs.Gives.{Gives};
+ghost use Rattle.tn_rows.specs.Ends.{IsOutcome, final_after, last_of};
+ghost use Rattle.tn_rows.specs.Events.{Rests};
+ghost use Rattle.tn_run.specs.Answer.{IsAnswer, IsRunOf, machine_of};
 
-use crate::job::{JobStop, PlainJob, read_job};
+use crate::history::History;
 use crate::kept::Kept;
-use crate::play::play;
 use crate::report::{refusal, report};
 use crate::status::Status;
-use crate::world::World;
+use job_load::fault::{FaultName, LoadFault, LoadStop};
+use job_load::load::load;
+use job_text::job::JobStop;
+use job_text::read::read_job;
 use std::alloc::{AllocError, Global};
-use tn_base::shape::{Shape, ShapeNumbers};
+use tn_base::event::{Event, Outcome};
+use tn_text::lines::law_line_count;
+use tn_world::events::{final_of, rest_outcome};
+use tn_world::play::play;
+use tn_world::world::World;
+
+/// More events than memory can hold.
+const MOST_EVENTS: u64 = u64::MAX;
 
 /// What is to be written, and the status after it.
 #[derive(Drop)]
@@ -18,40 +30,53 @@ pub struct Output {
     pub text: Vec<u8>,
 }
 
-/// The machine of a job, at its start.
-fn load(alloc: Global, job: &PlainJob) -> Result<World, AllocError>
-    ensures { IfOk result (λ world. world ≡ start_of job.now) }
+/// The machine of an input, at its start.
+fn load_input(alloc: Global, input: &[u8]) -> Result<World, LoadStop>
+    requires { length input.now ≤ 16777216 }
+    ensures { Gives result (machine_of input.now) }
 {
-    let numbers = ShapeNumbers {
-        version: 1,
-        boards_x: 1,
-        boards_y: 1,
-        tiles_x: 1,
-        tiles_y: 1,
-        cores: 1,
-        threads: job.threads(),
-        slots: 64,
-        link: 4,
-        mem: 4096,
-        fuel: 1_000_000,
-        turn: 16,
-    };
-    match Shape::of(numbers) {
-        Ok(shape) => World::of(alloc, shape, job.words()),
-        Err(_) => unreachable!(),
+    law_line_count(input);
+    match read_job(alloc, input) {
+        Ok(job) => load(alloc, &job),
+        Err(JobStop::Memory) => Err(LoadStop::Memory),
+        Err(JobStop::Fault(fault)) => Err(LoadStop::Fault(LoadFault {
+            line: fault.line,
+            kind: FaultName::of_text(fault.kind),
+        })),
     }
 }
 
-/// Runs a job and reports.
-fn run(alloc: Global, job: &PlainJob, kept: &mut Kept) -> Result<Output, AllocError>
-    requires start { kept.old.start ≡ None }
-    requires history { kept.old.history ≡ [] }
-    ensures { IfOk result (λ output. IsRunOf job.now kept.new output.status output.text.items) }
+/// How a run ended with its last event, after which the machine is this one, where that event is final.
+fn final_after(world: &World, history: &[Event]) -> Option<Outcome>
+    ensures { result ≡ final_after (last_of history.now) world.now }
 {
-    let start = load(alloc, job)?;
+    final_of(world, history.last()?)
+}
+
+/// How a run ended, after which the machine is this one: no event is enabled where the last one is not final.
+fn outcome_of(world: &World, history: &[Event]) -> Outcome
+    requires { MatchOption (final_after (last_of history.now) world.now) (Rests world.now) (λ _. ⊤) }
+    ensures { IsOutcome history.now world.now result }
+{
+    match final_after(world, history) {
+        Some(outcome) => outcome,
+        None => rest_outcome(world),
+    }
+}
+
+/// Runs a machine and reports.
+fn run(alloc: Global, start: World, kept: &mut Kept) -> Result<Output, AllocError>
+    requires history { kept.old.history ≡ [] }
+    ensures { IfOk result (λ output. IsRunOf start kept.new output.status output.text.items) }
+{
     let mut world = start.copy()?;
     kept.start = Some(start);
-    let outcome = play(&mut world, &mut kept.history)?;
+    let events = play(&mut world, MOST_EVENTS)?;
+    if events.len() as u64 >= MOST_EVENTS {
+        return Err(AllocError);
+    }
+    let outcome = outcome_of(&world, &events);
+    kept.history = History::from(events);
     let text = report(alloc, &world, outcome)?;
     Ok(Output {
         status: Status::of(outcome),
@@ -66,11 +91,11 @@ pub fn answer_input(alloc: Global, input: &[u8], kept: &mut Kept) -> Result<Outp
     requires history { kept.old.history ≡ [] }
     ensures { IfOk result (λ output. IsAnswer input.now kept.new output.status output.text.items) }
 {
-    match read_job(alloc, input) {
-        Ok(job) => run(alloc, &job, kept),
-        Err(JobStop::Memory) => Err(AllocError),
-        Err(JobStop::Refused(r)) => {
-            let text = refusal(alloc, r)?;
+    match load_input(alloc, input) {
+        Ok(start) => run(alloc, start, kept),
+        Err(LoadStop::Memory) => Err(AllocError),
+        Err(LoadStop::Fault(fault)) => {
+            let text = refusal(alloc, fault)?;
             Ok(Output {
                 status: Status::Refused,
                 text,

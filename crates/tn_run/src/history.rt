@@ -1,7 +1,7 @@
 //! The events of a run, in order.
-ghost use Rattle.std.specs.Prelude.{◌≡◌, ◌++◌, ◌∷◌, [], OnOk, OnErr};
+ghost use Rattle.std.specs.Prelude.{◌≡◌, []};
 
-use std::alloc::{AllocError, Global};
+use std::alloc::Global;
 use std::marker::Model;
 use tn_base::event::Event;
 
@@ -36,13 +36,14 @@ impl History {
     {
         self.events.as_slice()
     }
+}
 
-    /// Appends an event.
-    pub fn push(&mut self, event: Event) -> Result<(), AllocError>
-        ensures ok { OnOk result (self.new ≡ self.old ++ event ∷ []) }
-        ensures err { OnErr result (self.new ≡ self.old) }
-    {
-        self.events.push(event)?;
-        Ok(())
+impl From<Vec<Event>> for History {
+    ghost use Rattle.std.specs.Prelude.{◌≡◌};
+
+    ghost from_gives = { λ events history. history ≡ events.items };
+
+    fn from(events: Vec<Event>) -> History {
+        History { events }
     }
 }

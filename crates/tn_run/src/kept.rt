@@ -2,9 +2,9 @@
 ghost use Rattle.std.specs.Prelude.{◌≡◌, None, [], option_copied};
 
 use crate::history::History;
-use crate::world::World;
 use std::alloc::Global;
 use std::marker::Model;
+use tn_world::world::World;
 
 /// The machine at its start, where a job was accepted, and the events of its run. Each call sets it anew.
 #[derive(Drop)]

@@ -1,24 +1,16 @@
 //! The lines that a run writes.
-ghost use Rattle.std.specs.Prelude.{◌≡◌, ◌++◌, ◌≤◌, IfOk, OnOk, length, codes};
+ghost use Rattle.std.specs.Prelude.{◌≡◌, ◌++◌, IfOk, OnOk, codes};
 ghost use Rattle.tn_text.specs.Hex.{hex_word_text};
-ghost use Rattle.tn_run.specs.Report.{kind_text, refusal_text, trap_text, exit_text, exits_text, outcome_text, report_text};
+ghost use Rattle.tn_run.specs.Report.{dropped_in, dropped_text, exit_text, exits_from, exits_text, outcome_text, part_dropped, part_exits, refusal_text, report_text, trap_text};
 
-use crate::job::{JobKind, Refusal};
-use crate::machine::{Thread, ThreadState};
-use crate::world::World;
+use job_load::fault::LoadFault;
 use std::alloc::{AllocError, Global};
 use tn_base::event::{Outcome, Trap};
 use tn_text::print::{push_decimal, push_hex_word};
-
-/// The printed name of a kind of refusal.
-fn kind_name(kind: JobKind) -> &'static [u8]
-    ensures { result.now ≡ kind_text kind }
-{
-    match kind {
-        JobKind::Header => b"Header",
-        JobKind::UnsupportedYet => b"UnsupportedYet",
-    }
-}
+use tn_thread::state::ThreadState;
+use tn_tile::tile::Tile;
+use tn_world::part::Part;
+use tn_world::world::World;
 
 /// The printed name of a trap.
 fn trap_name(trap: Trap) -> &'static [u8]
@@ -41,14 +33,14 @@ fn trap_name(trap: Trap) -> &'static [u8]
 }
 
 /// The line of a refusal.
-pub fn refusal(alloc: Global, refusal: Refusal) -> Result<Vec<u8>, AllocError>
-    ensures { IfOk result (λ text. text.items ≡ refusal_text refusal) }
+pub fn refusal(alloc: Global, fault: LoadFault) -> Result<Vec<u8>, AllocError>
+    ensures { IfOk result (λ text. text.items ≡ refusal_text fault) }
 {
     let mut text = Vec::new(alloc);
     text.extend_from_slice(b"refused ")?;
-    push_decimal(alloc, &mut text, refusal.line)?;
+    push_decimal(alloc, &mut text, fault.line)?;
     text.extend_from_slice(b" ")?;
-    text.extend_from_slice(kind_name(refusal.kind))?;
+    text.extend_from_slice(fault.kind.name().as_bytes())?;
     text.extend_from_slice(b"\n")?;
     Ok(text)
 }
@@ -57,33 +49,88 @@ pub fn refusal(alloc: Global, refusal: Refusal) -> Result<Vec<u8>, AllocError>
 fn push_exit(
     alloc: Global,
     text: &mut Vec<u8>,
-    id: u32,
+    address: u32,
     state: ThreadState,
 ) -> Result<(), AllocError>
-    ensures { OnOk result (text.new.items ≡ text.old.items ++ exit_text id state) }
+    ensures { OnOk result (text.new.items ≡ text.old.items ++ exit_text address state) }
 {
     let ThreadState::Dead(value) = state else {
         return Ok(());
     };
     text.extend_from_slice(b"exit ")?;
-    push_decimal(alloc, text, id)?;
+    push_decimal(alloc, text, address)?;
     text.extend_from_slice(b" ")?;
     push_decimal(alloc, text, value)?;
     text.extend_from_slice(b"\n")?;
     Ok(())
 }
 
-/// Appends the lines of the threads that ended, by address.
-fn push_exits(alloc: Global, text: &mut Vec<u8>, threads: &[Thread]) -> Result<(), AllocError>
-    requires { length threads.now ≤ 16 }
-    ensures { OnOk result (text.new.items ≡ text.old.items ++ exits_text 0 threads.now) }
+/// Appends the lines of the threads of a tile that ended, by address.
+fn push_tile_exits(alloc: Global, text: &mut Vec<u8>, tile: &Tile) -> Result<(), AllocError>
+    ensures { OnOk result (text.new.items ≡ text.old.items ++ exits_from tile.now.shape tile.now.tile 0 tile.now.threads) }
 {
-    let mut id = 0;
-    for thread in threads {
-        push_exit(alloc, text, id, thread.state)?;
-        id += 1;
+    tile.kept();
+    let shape = tile.shape();
+    let _few = shape.tile_threads();
+    let mut place = 0;
+    for thread in tile.threads() {
+        let address = shape.thread_in_tile(tile.name(), place).0;
+        push_exit(alloc, text, address, *thread.state())?;
+        place += 1;
     }
     Ok(())
+}
+
+/// Appends the lines of all threads that ended, by address.
+fn push_exits(alloc: Global, text: &mut Vec<u8>, parts: &[Part]) -> Result<(), AllocError>
+    ensures { OnOk result (text.new.items ≡ text.old.items ++ exits_text parts.now) }
+{
+    for part in parts {
+        push_part_exits(alloc, text, part)?;
+    }
+    Ok(())
+}
+
+/// Appends the lines of the threads of a part that ended.
+fn push_part_exits(alloc: Global, text: &mut Vec<u8>, part: &Part) -> Result<(), AllocError>
+    ensures { OnOk result (text.new.items ≡ text.old.items ++ part_exits part.now) }
+{
+    match part.as_tile() {
+        Some(tile) => push_tile_exits(alloc, text, tile),
+        None => Ok(()),
+    }
+}
+
+/// How many letters were dropped on a part since their receivers were dead.
+fn dropped_on(part: &Part) -> u64
+    ensures { result ≡ part_dropped part.now }
+{
+    match part.as_tile() {
+        Some(tile) => tile.dropped(),
+        None => 0,
+    }
+}
+
+/// How many letters were dropped since their receivers were dead.
+fn count_dropped(parts: &[Part]) -> u128
+    ensures { result ≡ dropped_in parts.now }
+{
+    let mut count = 0;
+    for part in parts {
+        count += u128::from(dropped_on(part));
+    }
+    count
+}
+
+/// Appends the line of the letters that were dropped, where any were.
+fn push_dropped(alloc: Global, text: &mut Vec<u8>, count: u128) -> Result<(), AllocError>
+    ensures { OnOk result (text.new.items ≡ text.old.items ++ dropped_text count) }
+{
+    if count == 0 {
+        return Ok(());
+    }
+    let line = format!(in alloc; "dropped {count}\n")?;
+    text.extend_from_slice(line.as_bytes())
 }
 
 /// Appends the line of a key that has no beats.
@@ -124,7 +171,8 @@ pub fn report(alloc: Global, end: &World, outcome: Outcome) -> Result<Vec<u8>, A
     ensures { IfOk result (λ text. text.items ≡ report_text end.now outcome) }
 {
     let mut text = Vec::new(alloc);
-    push_exits(alloc, &mut text, end.threads())?;
+    push_exits(alloc, &mut text, end.parts())?;
+    push_dropped(alloc, &mut text, count_dropped(end.parts()))?;
     push_outcome(alloc, &mut text, outcome)?;
     Ok(text)
 }

@@ -122,53 +122,159 @@ fn a_spinning_thread(rt: HostRuntime) -> Result<(), Fail> {
 }
 
 #[test]
+fn messages(rt: HostRuntime) -> Result<(), Fail> {
+    let alloc: Global = rt.alloc();
+    let rows: [(&[u8], Status, &[u8]); 13] = [
+        // A thread that sends to itself.
+        (
+            b"tinsel 1\nshape 1 1 1 1 1 1\ncode all\n500005b7\n04d00613\n00c5a023\n80301073\n80601073\n80102573\nfe050ee3\n807025f3\n0005a503\n80859073\n80b51073\nend\n",
+            Status::Done,
+            b"exit 0 77\ndone\n",
+        ),
+        // It frees its slot twice.
+        (
+            b"tinsel 1\nshape 1 1 1 1 1 1\ncode all\n500005b7\n04d00613\n00c5a023\n80301073\n80601073\n80102573\nfe050ee3\n807025f3\n0005a503\n80859073\n80859073\n80b51073\nend\n",
+            Status::Trapped,
+            b"trap 0 BadFree\n",
+        ),
+        // It takes from an empty queue.
+        (
+            b"tinsel 1\nshape 1 1 1 1 1 1\ncode all\n807025f3\nend\n",
+            Status::Trapped,
+            b"trap 0 RecvEmpty\n",
+        ),
+        // It waits for a message that nobody sends.
+        (
+            b"tinsel 1\nshape 1 1 1 1 1 1\ncode all\n00200513\n80951073\nend\n",
+            Status::Jammed,
+            b"jammed\n",
+        ),
+        // It ends before its own message comes: that is dropped.
+        (
+            b"tinsel 1\nshape 1 1 1 1 1 1\ncode all\n80301073\n80601073\n80b01073\nend\n",
+            Status::Done,
+            b"exit 0 0\ndropped 1\ndone\n",
+        ),
+        // Two threads end before a message to both comes.
+        (
+            b"tinsel 1\nshape 1 1 1 1 1 2\ncode all\nf1402573\n00051a63\n00300593\n80459073\n00100593\n80659073\n80b01073\nend\n",
+            Status::Done,
+            b"exit 0 0\nexit 1 0\ndropped 2\ndone\n",
+        ),
+        // Messages of eight flits are version 2's.
+        (
+            b"tinsel 2\nshape 1 1 1 1 1 1\ncode all\n500005b7\n04d00613\n06c5ae23\n00700693\n80269073\n80601073\n80102573\nfe050ee3\n807025f3\n07c5a503\n80859073\n80b51073\nend\n",
+            Status::Done,
+            b"exit 0 77\ndone\n",
+        ),
+        (
+            b"tinsel 1\nshape 1 1 1 1 1 1\ncode all\n500005b7\n04d00613\n06c5ae23\n00700693\n80269073\n80601073\n80102573\nfe050ee3\n807025f3\n07c5a503\n80859073\n80b51073\nend\n",
+            Status::Trapped,
+            b"trap 0 BadAddress\n",
+        ),
+        // Fuel of 100 steps, and of two and three for threads that need two.
+        (
+            b"tinsel 1\nshape 1 1 1 1 1 1\nfuel 100\ncode all\n0000006f\nend\n",
+            Status::Spent,
+            b"spent 0\n",
+        ),
+        (
+            b"tinsel 1\nshape 1 1 1 1 1 1\nfuel 2\ncode all\nf1402573\n80b51073\nend\n",
+            Status::Spent,
+            b"exit 0 0\nspent 0\n",
+        ),
+        (
+            b"tinsel 1\nshape 1 1 1 1 1 1\nfuel 3\ncode all\nf1402573\n80b51073\nend\n",
+            Status::Done,
+            b"exit 0 0\ndone\n",
+        ),
+        // A byte that the job fills: `lbu x10, 5(x0)`.
+        (
+            b"tinsel 1\nshape 1 1 1 1 1 1\ncode all\n00504503\n80b51073\nend\nfill 0 4 0a0b\n",
+            Status::Done,
+            b"exit 0 11\ndone\n",
+        ),
+        // A message to the host waits, since the host is not there yet.
+        (
+            b"tinsel 1\nshape 1 1 1 1 1 1\ncode all\n400005b7\n80359073\n80601073\n80b01073\nend\n",
+            Status::Jammed,
+            b"exit 0 0\njammed\n",
+        ),
+    ];
+    for (input, status, text) in rows {
+        row(&rt, alloc, input, status, text)?;
+    }
+    Ok(())
+}
+
+/// The line of a thread that ended with its address.
+fn exit_line(alloc: Global, text: &mut Vec<u8>, thread: u32) -> Result<(), Fail> {
+    let line = format!(in alloc; "exit {thread} {thread}\n")?;
+    text.extend_from_slice(line.as_bytes())?;
+    Ok(())
+}
+
+#[test]
+fn a_full_tile(rt: HostRuntime) -> Result<(), Fail> {
+    let alloc: Global = rt.alloc();
+    let mut text = Vec::new(alloc);
+    for thread in 0..64 {
+        exit_line(alloc, &mut text, thread)?;
+    }
+    text.extend_from_slice(b"done\n")?;
+    row(
+        &rt,
+        alloc,
+        b"tinsel 1\nshape 1 1 1 1 4 16\ncode all\nf1402573\n80b51073\nend\n",
+        Status::Done,
+        text.as_slice(),
+    )?;
+    Ok(())
+}
+
+#[test]
 fn refusals(rt: HostRuntime) -> Result<(), Fail> {
     let alloc: Global = rt.alloc();
-    let texts: [(&[u8], &[u8]); 14] = [
+    let texts: [(&[u8], &[u8]); 13] = [
         (b"", b"refused 1 Header\n"),
-        (b"tinsel 2\nshape 1 1 1 1 1 1\n", b"refused 1 Header\n"),
-        (b" tinsel 1\n", b"refused 1 Header\n"),
-        (b"tinsel 1\n", b"refused 1 UnsupportedYet\n"),
+        (b"tinsel 3\nshape 1 1 1 1 1 1\n", b"refused 1 Header\n"),
+        (b"tinsel 1\n\n# no shape\n", b"refused 2 NoShape\n"),
         (
-            b"tinsel 1\nshape 1 1 1 1 1 17\n",
+            b"tinsel 1\nshape 1 1 1 1 1 17\ncode all\n80b01073\nend\n",
+            b"refused 2 Threads\n",
+        ),
+        (
+            b"tinsel 1\nshape 4 4 4 4 4 16\nmem 65536\ncode all\n80b51073\nend\n",
+            b"refused 2 Total\n",
+        ),
+        (
+            b"tinsel 1\nshape 1 1 1 1 1 1\nslots 3\ncode all\n80b01073\nend\n",
+            b"refused 3 Slots\n",
+        ),
+        (
+            b"tinsel 1\nshape 1 1 1 1 1 2\ncode all\nf1402573\n",
+            b"refused 4 NoEnd\n",
+        ),
+        (
+            b"tinsel 1\nshape 1 1 1 1 1 2\ncode all\nf1402573\n80b51073\nf14\n",
+            b"refused 6 BadWord\n",
+        ),
+        (b"tinsel 1\nshape 1 1 1 1 1 2\n", b"refused 2 NoCode\n"),
+        (
+            b"tinsel 1\nshape 1 1 2 1 1 1\ncode all\n80b01073\nend\n",
             b"refused 2 UnsupportedYet\n",
         ),
         (
-            b"tinsel 1\nshape 1 1 1 1 1 01\n",
-            b"refused 2 UnsupportedYet\n",
-        ),
-        (
-            b"tinsel 1\nshape 1 1 1 1 1 1",
-            b"refused 2 UnsupportedYet\n",
-        ),
-        (
-            b"tinsel 1\nshape 1 1 1 1 1 1\ncode 0\n",
-            b"refused 3 UnsupportedYet\n",
-        ),
-        (
-            b"tinsel 1\nshape 1 1 1 1 1 1\ncode all\nend\n",
-            b"refused 4 UnsupportedYet\n",
-        ),
-        (
-            b"tinsel 1\nshape 1 1 1 1 1 1\ncode all\nf140257\nend\n",
-            b"refused 4 UnsupportedYet\n",
-        ),
-        // An instruction, and a control register, that are not built yet.
-        (
-            b"tinsel 1\nshape 1 1 1 1 1 1\ncode all\nf1402573\n00000013\nend\n",
-            b"refused 5 UnsupportedYet\n",
-        ),
-        (
-            b"tinsel 1\nshape 1 1 1 1 1 1\ncode all\n80c02573\nend\n",
-            b"refused 4 UnsupportedYet\n",
-        ),
-        (
-            b"tinsel 1\nshape 1 1 1 1 1 1\ncode all\nf1402573\n80b51073",
-            b"refused 5 UnsupportedYet\n",
-        ),
-        (
-            b"tinsel 1\nshape 1 1 1 1 1 1\ncode all\nf1402573\nend\n\n",
+            b"tinsel 1\nshape 1 1 1 1 1 1\ncode all\n80b01073\nend\nhost idle\n",
             b"refused 6 UnsupportedYet\n",
+        ),
+        (
+            b"tinsel 1\nshape 1 1 1 1 1 1\ncode all\n80b01073\nend\nfill 0 4095 0000\n",
+            b"refused 6 BadFill\n",
+        ),
+        (
+            b"tinsel 1\nshape 1 1 1 1 1 1\ncode all\n80b01073\nend\nfill 1 0 00\n",
+            b"refused 6 BadThread\n",
         ),
     ];
     for (input, text) in texts {

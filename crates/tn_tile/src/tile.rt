@@ -4,7 +4,7 @@ ghost use Rattle.std.specs.Prelude.{◌≡◌, ◌≤◌, ◌<◌, ◌↔◌, If
 ghost use Rattle.rv_isa.specs.Decode.{decode_of};
 ghost use Rattle.tn_base.specs.Address.{has_tile, place_in_tile, tile_of, tile_threads};
 ghost use Rattle.tn_slots.specs.Pool.{message_at};
-ghost use Rattle.tn_tile.specs.Kept.{AreStarts, fresh_tile};
+ghost use Rattle.tn_tile.specs.Kept.{AreStarts, WellShaped, fresh_tile};
 ghost use Rattle.tn_tile.specs.Rows.{buffer_at, can_count, is_here, sender_of};
 ghost use Rattle.tn_tile.specs.Step.{pending_at, thread_at};
 
@@ -213,6 +213,13 @@ impl Tile {
         ensures { IsTrue result ↔ ((self.now.shape ≡ shape.now) × (self.now.tile ≡ tile.0)) }
     {
         self.shape == *shape && self.tile == tile
+    }
+
+    /// Tells what holds of every tile.
+    pub fn kept(&self)
+        ensures { WellShaped self.now }
+    {
+        let _shape = &self.shape;
     }
 
     /// Whether a thread is one of the tile's.

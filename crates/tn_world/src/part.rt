@@ -1,10 +1,22 @@
 //! A part of a machine.
 
-ghost use Rattle.std.specs.Prelude.{◌≡◌, IfOk, MatchOption};
+ghost use Rattle.std.specs.Prelude.{◌≡◌, IfOk, MatchOption, MatchResult, is_some};
+ghost use Rattle.tn_base.specs.declared.event.Event.TheVariants as event;
+ghost use Rattle.tn_base.specs.Does.{Does};
+ghost use Rattle.tn_rows.specs.Ends.{ended_on, is_over};
+ghost use Rattle.tn_rows.specs.Events.{after};
 ghost use Rattle.tn_rows.specs.PartView.{AbsentV, TileV};
+ghost use Rattle.tn_tile.specs.Rows.{turn_row};
+ghost use Rattle.tn_tile.specs.Turns.{moved};
+ghost use Rattle.tn_world.specs.Plays.{TurnsPart};
 
 use std::alloc::AllocError;
 use std::marker::Model;
+use tn_base::event::Outcome;
+use tn_base::ids::ThreadId;
+use tn_thread::state::ThreadState;
+use tn_tile::deliver::Did;
+use tn_tile::step::Turned;
 use tn_tile::tile::Tile;
 
 /// What a part is.
@@ -67,5 +79,107 @@ impl Part {
             Contents::Tile(tile) => Some(tile),
             Contents::Absent => None,
         }
+    }
+
+    /// The longest turn of a thread.
+    pub(crate) fn turn(&mut self, t: ThreadId) -> Turned
+        ensures { TurnsPart result t self.old self.new }
+    {
+        match &mut self.contents {
+            Contents::Tile(tile) if tile.is_here(t) => tile.turn(t),
+            _ => Turned::Nothing,
+        }
+    }
+
+    /// A turn of so many steps, where the thread can make them.
+    pub(crate) fn turn_of(&mut self, t: ThreadId, n: u32) -> Result<Did, AllocError>
+        ensures { MatchResult result (λ did. Does (moved did) (after (event.Turn t n) self.old) self.old self.new) (λ _. self.new ≡ self.old) }
+    {
+        match &mut self.contents {
+            Contents::Tile(tile) => turn_tile(tile, t, n),
+            Contents::Absent => Ok(Did::Nothing),
+        }
+    }
+
+    /// Delivers a thread's packet.
+    pub(crate) fn deliver(&mut self, t: ThreadId) -> Did
+        ensures { Does (moved result) (after (event.Deliver t) self.old) self.old self.new }
+    {
+        match &mut self.contents {
+            Contents::Tile(tile) if tile.is_here(t) => tile.deliver(t),
+            _ => Did::Nothing,
+        }
+    }
+
+    /// Whether a thread can make a step.
+    pub(crate) fn can_turn(&self, t: ThreadId) -> bool
+        ensures { result ≡ is_some (after (event.Turn t 1) self.now) }
+    {
+        match &self.contents {
+            Contents::Tile(tile) => tile.is_here(t) && tile.can_turn(t),
+            Contents::Absent => false,
+        }
+    }
+
+    /// Whether a thread's packet can be delivered.
+    pub(crate) fn can_deliver(&self, t: ThreadId) -> bool
+        ensures { result ≡ is_some (after (event.Deliver t) self.now) }
+    {
+        match &self.contents {
+            Contents::Tile(tile) => tile.is_here(t) && tile.can_deliver(t),
+            Contents::Absent => false,
+        }
+    }
+
+    /// How a run ends with a turn of this thread after which the part is this one, where that turn is final.
+    pub(crate) fn ended_by(&self, t: ThreadId) -> Option<Outcome>
+        ensures { result ≡ ended_on t self.now }
+    {
+        match &self.contents {
+            Contents::Tile(tile) => end_on(tile, t),
+            Contents::Absent => None,
+        }
+    }
+
+    /// Whether all threads of the part ended, and no message stands there.
+    pub(crate) fn is_over(&self) -> bool
+        ensures { result ≡ is_over self.now }
+    {
+        match &self.contents {
+            Contents::Tile(tile) => tile.still() && !tile.live(),
+            Contents::Absent => true,
+        }
+    }
+}
+
+/// A turn of so many steps, made on a copy of the tile.
+fn turn_tile(tile: &mut Tile, t: ThreadId, n: u32) -> Result<Did, AllocError>
+    ensures { MatchResult result (λ did. Does (moved did) (turn_row t.0 n tile.old) tile.old tile.new) (λ _. tile.new ≡ tile.old) }
+{
+    let most = tile.shape().numbers().turn;
+    if !tile.is_here(t) || n == 0 || n > most || !tile.counts() {
+        return Ok(Did::Nothing);
+    }
+    let mut after = tile.copy()?;
+    if after.turn_up_to(t, n) < n {
+        return Ok(Did::Nothing);
+    }
+    *tile = after;
+    Ok(Did::Moved)
+}
+
+/// How a run ends with a turn of this thread after which the tile is this one, where that turn is final: the thread
+/// trapped, or has used its fuel.
+fn end_on(tile: &Tile, t: ThreadId) -> Option<Outcome>
+    ensures { result ≡ ended_on t (TileV tile.now) }
+{
+    if !tile.is_here(t) {
+        return None;
+    }
+    let thread = tile.thread(t);
+    match thread.state() {
+        ThreadState::Trapped(trap) => Some(Outcome::Trapped(t, *trap)),
+        _ if thread.steps() == tile.shape().numbers().fuel => Some(Outcome::Spent(t)),
+        _ => None,
     }
 }

@@ -1,0 +1,10 @@
+pub mod LabelLemmas
+pub mod Fits
+pub mod Tight
+pub mod Operands
+pub mod FieldsBack
+pub mod ShowBack
+pub mod LoadLemmas
+pub mod Sizes
+pub mod Places
+pub mod Assembly

@@ -1,0 +1,131 @@
+//! The arguments of an instruction.
+
+ghost use Rattle.std.specs.Prelude.{◌≡◌, [], IfOk};
+ghost use Rattle.std.specs.declared.result.Result.TheVariants.{Ok};
+ghost use Rattle.tn_text.specs.Content.{trimmed as trimmed_of};
+ghost use Rattle.asm_text.specs.Cut.{parts_at};
+ghost use Rattle.asm_text.specs.Arguments.{base_of, memory_of, arg_of, args_of, args_in};
+ghost use Rattle.asm_text.specs.Reading.{joined, Takes};
+ghost use Rattle.asm_text.specs.Gives.{GivesValue};
+
+use crate::cut::cut;
+use crate::fault::{LineStop, Misread};
+use crate::line::{Arg, Args};
+use crate::registers::find_register;
+use std::alloc::{AllocError, Global};
+use tn_base::name::Name;
+use tn_text::content::trimmed;
+use tn_text::names::is_name;
+use tn_text::numbers::{Numeral, signed_number};
+
+/// A name of these bytes.
+pub(crate) fn copy_name(alloc: Global, text: &[u8]) -> Result<Name, AllocError>
+    ensures { IfOk result (λ name. name ≡ text.now) }
+{
+    let mut bytes = Vec::new(alloc);
+    bytes.extend_from_slice(text)?;
+    Ok(Name::of(bytes))
+}
+
+/// The register of a text that ends with `)`.
+fn base(text: &[u8]) -> Option<u8>
+    ensures { result ≡ base_of text.now }
+{
+    let (front, rest) = cut(text, b')')?;
+    if rest.is_empty() {
+        find_register(trimmed(front))
+    } else {
+        None
+    }
+}
+
+/// A number with a register in brackets.
+fn read_memory(text: &[u8]) -> Result<Arg, LineStop>
+    ensures { GivesValue result (memory_of text.now) }
+{
+    let Some((front, rest)) = cut(text, b'(') else {
+        return Err(LineStop::Misread(Misread::BadLine));
+    };
+    let Some(base) = base(rest) else {
+        return Err(LineStop::Misread(Misread::BadLine));
+    };
+    match signed_number(trimmed(front)) {
+        Numeral::Value(offset) => Ok(Arg::Mem(offset, base)),
+        Numeral::TooLarge => Err(LineStop::Misread(Misread::BadNumber)),
+        Numeral::NoNumber => Err(LineStop::Misread(Misread::BadLine)),
+    }
+}
+
+fn read_arg(alloc: Global, text: &[u8]) -> Result<Arg, LineStop>
+    ensures { GivesValue result (arg_of text.now) }
+{
+    if let Some(register) = find_register(text) {
+        return Ok(Arg::Reg(register));
+    }
+    match signed_number(text) {
+        Numeral::Value(number) => return Ok(Arg::Num(number)),
+        Numeral::TooLarge => return Err(LineStop::Misread(Misread::BadNumber)),
+        Numeral::NoNumber => {}
+    }
+    if is_name(text) {
+        return Ok(Arg::Name(copy_name(alloc, text)?));
+    }
+    read_memory(text)
+}
+
+/// Arguments that are being read, and whether one had a number that is too large.
+#[derive(Drop)]
+struct Reading {
+    args: Args,
+    too_large: bool,
+}
+
+impl Reading {
+    /// Reads one more argument.
+    fn take(&mut self, alloc: Global, part: &[u8]) -> Result<(), LineStop>
+        ensures { Takes result self.old self.new (arg_of (trimmed_of part.now)) }
+    {
+        match read_arg(alloc, trimmed(part)) {
+            Ok(arg) => self.args.push(arg)?,
+            Err(LineStop::Misread(Misread::BadNumber)) => self.too_large = true,
+            Err(stop) => return Err(stop),
+        }
+        Ok(())
+    }
+
+    fn finish(self) -> Result<Args, LineStop>
+        ensures { GivesValue result (joined self.args self.too_large (Ok [])) }
+    {
+        if self.too_large {
+            return Err(LineStop::Misread(Misread::BadNumber));
+        }
+        Ok(self.args)
+    }
+}
+
+/// The arguments of a text in which something stands.
+fn read_parts(alloc: Global, text: &[u8]) -> Result<Args, LineStop>
+    ensures { GivesValue result (args_of (parts_at 44 text.now)) }
+{
+    let mut reading = Reading {
+        args: Args::new(alloc),
+        too_large: false,
+    };
+    let mut rest = text;
+    while let Some((part, after)) = cut(rest, b',') {
+        reading.take(alloc, part)?;
+        rest = after;
+    }
+    reading.take(alloc, rest)?;
+    reading.finish()
+}
+
+/// The arguments of a text, parted by commas.
+pub(crate) fn read_args(alloc: Global, text: &[u8]) -> Result<Args, LineStop>
+    ensures { GivesValue result (args_in text.now) }
+{
+    if text.is_empty() {
+        return Ok(Args::new(alloc));
+    }
+    read_parts(alloc, text)
+}

@@ -1,0 +1,76 @@
+-- The first fault, and the first section of an owner.
+use Rattle.std.proofs.Common.{ℕ, ◌≡◌, ◌≤◌, ◌<◌, ◌+◌, ◌∷◌, [], Bool, true, false, List, length, drop, get_or, nat_lt, if◌then◌else◌, refl, arith, None, Some, Option}
+use Rattle.std.specs.List.{AllByRecursion}
+use Rattle.std.proofs.lemmas.Bool.Decides.{nat_tests}
+use Rattle.std.proofs.lemmas.List.{drop_all}
+use Rattle.std.specs.declared.result.Result.TheVariants.{Ok}
+use Rattle.tn_base.specs.declared.shape.ShapeFault.{ShapeFault}
+use Rattle.tn_base.specs.declared.shape.ShapeNumbers.{ShapeNumbers}
+use Rattle.tn_base.specs.Shape.{first_fault, shape_by}
+use Rattle.job_text.specs.declared.job.CodeSection.{CodeSection}
+use Rattle.job_text.specs.declared.job.Job.{Job}
+use Rattle.job_text.specs.declared.job.Owner.{Owner}
+use Rattle.job_load.specs.declared.fault.LoadFault.{LoadFault}
+use Rattle.job_load.specs.Code.{words_by}
+use Rattle.job_load.specs.Faults.{number_fault, sooner, soonest}
+use Rattle.job_load.proofs.Ranges.{rest_first}
+
+-- the numbers of a shape that is made are those that were asked for, and none is at fault
+pub numbers_of_shape : (n s : ShapeNumbers) (f : Option ShapeFault) → Ok s ≡ shape_by n f → (s ≡ n) × (f ≡ None)
+numbers_of_shape n s None e = (cc, refl)
+numbers_of_shape n s (Some f) e = absurd cc
+
+pub no_number_fault : (job : Job) → first_fault job.numbers ≡ None → number_fault job ≡ None
+no_number_fault job e = rw e refl
+
+by_lines : (a b c : LoadFault) → sooner (sooner (Some a) (Some b)) (Some c) ≡ sooner (Some a) (sooner (Some b) (Some c))
+by_lines a b c = grind (arith, nat_tests)
+
+after_two : (t : Bool) (a b : LoadFault) → sooner (if t then Some b else Some a) None ≡ (if t then Some b else Some a)
+after_two true a b = refl
+after_two false a b = refl
+
+no_choice : (t : Bool) (a b : LoadFault) → (if t then Some b else Some a) ≡ None → ⊥
+no_choice true a b e = cc
+no_choice false a b e = cc
+
+pub sooner_assoc : (a b c : Option LoadFault) → sooner (sooner a b) c ≡ sooner a (sooner b c)
+sooner_assoc None b c = refl
+sooner_assoc (Some a) None c = refl
+sooner_assoc (Some a) (Some b) None = after_two (nat_lt b.line a.line) a b
+sooner_assoc (Some a) (Some b) (Some c) = by_lines a b c
+
+pub sooner_none : (a : Option LoadFault) → sooner a None ≡ a
+sooner_none None = refl
+sooner_none (Some a) = refl
+
+pub soonest_more : {X : Type 0} (test : X → Option LoadFault) (xs : List X) (i : ℕ) (x : X) (first : Option LoadFault) → i < length xs → x ≡ get_or xs i x →
+    sooner (sooner first (test x)) (soonest test (drop (i + 1) xs)) ≡ sooner first (soonest test (drop i xs))
+soonest_more test xs i x first h is = rw (rest_first xs i x h is) (sooner_assoc first (test x) (soonest test (drop (i + 1) xs)))
+
+pub soonest_done : {X : Type 0} (test : X → Option LoadFault) (xs : List X) (i : ℕ) (first : Option LoadFault) → length xs ≤ i →
+    sooner first (soonest test (drop i xs)) ≡ first
+soonest_done test xs i first h = rw (drop_all i xs h) (sooner_none first)
+
+-- where no item is at fault, the test says so of each
+pub sooner_neither : (a b : Option LoadFault) → sooner a b ≡ None → (a ≡ None) × (b ≡ None)
+sooner_neither None b e = (refl, e)
+sooner_neither (Some a) None e = absurd cc
+sooner_neither (Some a) (Some b) e = absurd (no_choice (nat_lt b.line a.line) a b e)
+
+pub none_soonest : {X : Type 0} (test : X → Option LoadFault) (xs : List X) → soonest test xs ≡ None → AllByRecursion (λ x. test x ≡ None) xs
+none_soonest test [] e = tt
+none_soonest test (x ∷ xs) e = let both = sooner_neither (test x) (soonest test xs) e in (both.0, none_soonest test xs both.1)
+
+-- The words of an owner.
+
+pub words_here : (test : Owner → Bool) (ss : List CodeSection) (i : ℕ) (s : CodeSection) → i < length ss → s ≡ get_or ss i s → test s.owner ≡ true →
+    words_by test (drop i ss) ≡ Some s.words
+words_here test ss i s h is e = rw (rest_first ss i s h is, e) refl
+
+pub words_behind : (test : Owner → Bool) (ss : List CodeSection) (i : ℕ) (s : CodeSection) → i < length ss → s ≡ get_or ss i s → test s.owner ≡ false →
+    words_by test (drop (i + 1) ss) ≡ words_by test (drop i ss)
+words_behind test ss i s h is e = rw (rest_first ss i s h is, e) refl
+
+pub words_done : (test : Owner → Bool) (ss : List CodeSection) (i : ℕ) → length ss ≤ i → words_by test (drop i ss) ≡ None
+words_done test ss i h = rw (drop_all i ss h) refl

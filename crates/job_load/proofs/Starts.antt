@@ -1,0 +1,123 @@
+-- Threads and parts at the start.
+use Rattle.std.proofs.Common.{ℕ, ◌≡◌, ◌≤◌, ◌+◌, ◌∷◌, ◌∙◌, [], Bool, true, false, not, List, Some, None, length, map, nat_lt, refl, sym, subst, ap, arith, IfOk, if◌then◌else◌}
+use Rattle.std.specs.List.{AllByRecursion, range_with_len}
+use Rattle.std.specs.declared.result.Result.{Result}
+use Rattle.std.proofs.lemmas.Bool.Decides.{nat_tests}
+use Rattle.std.proofs.lemmas.List.{get_or-map, length-map}
+use Rattle.std.proofs.lemmas.List.FromFn.{get_or-map-range_with_len, length-map-range_with_len}
+use Rattle.tn_base.specs.declared.ids.ThreadId.{ThreadId}
+use Rattle.tn_base.specs.declared.part.Kind.{Kind}
+use Rattle.tn_base.specs.declared.part.Kind.TheVariants as kind
+use Rattle.tn_base.specs.declared.shape.ShapeNumbers.{ShapeNumbers}
+use Rattle.tn_base.specs.Address.{has_thread, in_tile, tile_threads}
+use Rattle.tn_base.specs.Parts.{kind_of, parts}
+use Rattle.tn_rows.specs.Events.{FitsKind, IsWorld}
+use Rattle.tn_rows.specs.PartView.{PartView, AbsentV}
+use Rattle.tn_rows.specs.WorldView.{WorldView}
+use Rattle.tn_thread.specs.declared.thread.Thread.{Thread}
+use Rattle.tn_thread.specs.Step.{started}
+use Rattle.tn_tile.specs.Kept.{AreStarts, fresh_tile}
+use Rattle.tn_tile.specs.Step.{no_thread}
+use Rattle.tn_tile.specs.TileView.{TileView}
+use Rattle.job_text.specs.declared.job.FillLine.{FillLine}
+use Rattle.job_text.specs.declared.job.Job.{Job}
+use Rattle.job_load.specs.declared.fault.FaultName.TheVariants as fault
+use Rattle.job_load.specs.Code.{code_of}
+use Rattle.job_load.specs.Faults.{code_fault, fault_at, fill_fault, section_fault, soonest}
+use Rattle.job_load.specs.Images.{AreImages, IsWithin, filled, image_at, memory_of}
+use Rattle.job_load.specs.Start.{by_address, part_start, start_of, thread_over, thread_start, tile_start}
+use Rattle.job_load.proofs.Faults.{none_soonest, sooner_neither}
+use Rattle.job_load.proofs.Images.{filled_long, filled_none}
+use Rattle.job_load.proofs.Ranges.{map_same}
+
+-- Images and memories.
+
+same_start : (n : ShapeNumbers) (id : ThreadId) (a b : List ℕ) → filled n.mem a ≡ filled n.mem b → started n id a None ≡ started n id b None
+same_start n id a b e = ap (λ m. record (started n id [] None) { mem = m }) e
+
+-- a thread over its image is the thread over the whole memory that the image stands for
+pub thread_same : (n : ShapeNumbers) (fills : List FillLine) (images : List (List ℕ)) → AreImages n.mem fills images → (thread : ℕ) →
+    thread_over n images thread ≡ started n (record { 0 = thread }) (memory_of n.mem fills thread) None
+thread_same n fills images are thread =
+    let long : length (memory_of n.mem fills thread) ≡ n.mem = ap length (sym (are.memory thread)) ∙ filled_long n.mem (image_at images thread) (are.few thread) in
+    let whole : filled n.mem (memory_of n.mem fills thread) ≡ memory_of n.mem fills thread = filled_none n.mem (memory_of n.mem fills thread) (omega arith) in
+    same_start n (record { 0 = thread }) (image_at images thread) (memory_of n.mem fills thread) (are.memory thread ∙ sym whole)
+
+pub threads_same : (n : ShapeNumbers) (job : Job) (images : List (List ℕ)) (tile : ℕ) → n ≡ job.numbers → AreImages n.mem job.fills images →
+    by_address (thread_over n images) n tile ≡ by_address (thread_start job) n tile
+threads_same n job images tile e are =
+    map_same (λ k. thread_over n images (in_tile n tile k)) (λ k. thread_start job (in_tile n tile k)) (range_with_len 0 (tile_threads n))
+    (λ k. thread_same n job.fills images are (in_tile n tile k) ∙ ap (λ m. started m (record { 0 = in_tile n tile k }) (memory_of m.mem job.fills (in_tile n tile k)) None) e)
+
+pub threads_start : (n : ShapeNumbers) (images : List (List ℕ)) (tile : ℕ) → ((k : ℕ) → length (image_at images k) ≤ n.mem) →
+    AreStarts n tile (by_address (thread_over n images) n tile)
+threads_start n images tile few = record {
+  count = length-map-range_with_len (λ k. thread_over n images (in_tile n tile k)) 0 (tile_threads n);
+  each = λ k h. record {
+    image = image_at images (in_tile n tile k);
+    fits = few (in_tile n tile k);
+    start = get_or-map-range_with_len (λ k. thread_over n images (in_tile n tile k)) 0 (tile_threads n) k k no_thread h (omega arith);
+  };
+}
+
+-- a thread that was made is the one over its image
+pub thread_made : (n : ShapeNumbers) (images : List (List ℕ)) (id : ThreadId) (a : ℕ) (image : List ℕ) (thread : Thread) →
+    id.0 ≡ a → image ≡ image_at images id.0 → thread ≡ started n id image None → thread ≡ thread_over n images a
+thread_made n images id a image thread e f g =
+    g ∙ ap (λ m. started n id m None) f ∙ ap (λ b. thread_over n images b) e
+
+-- a tile that was made is the one of the job
+pub tile_made : (n : ShapeNumbers) (job : Job) (images : List (List ℕ)) (tile : ℕ) (words : List ℕ) (threads : List Thread) →
+    n ≡ job.numbers → AreImages n.mem job.fills images → words ≡ code_of job.codes tile → threads ≡ by_address (thread_over n images) n tile →
+    fresh_tile n tile words threads ≡ tile_start job tile
+tile_made n job images tile words threads e are f g =
+    let same : threads ≡ by_address (thread_start job) job.numbers tile =
+    g ∙ threads_same n job images tile e are ∙ ap (λ m. by_address (thread_start job) m tile) e in
+    ap (λ m. fresh_tile m tile words threads) e ∙ ap (λ w. fresh_tile job.numbers tile w threads) f ∙ ap (λ all. fresh_tile job.numbers tile (code_of job.codes tile) all) same
+
+pub if_made : {E : Type 0} (result : Result TileView E) (made tile : TileView) → made ≡ tile → IfOk result (λ t. t ≡ made) → IfOk result (λ t. t ≡ tile)
+if_made result made tile e h = let P : TileView → Type 0 = λ v. IfOk result (λ t. t ≡ v) in subst P e h
+
+-- The machine.
+
+fits_kind : (job : Job) (k : Kind) → FitsKind job.numbers k (part_start job k)
+fits_kind job (kind.Tile tile) = (refl, refl)
+fits_kind job kind.Host = tt
+fits_kind job (kind.Router board) = tt
+fits_kind job (kind.Link from onto) = tt
+fits_kind job kind.Detector = tt
+
+pub start_is_world : (job : Job) → IsWorld (start_of job)
+start_is_world job = record {
+  count = length-map (parts job.numbers) (part_start job);
+  each = λ p h. let e = get_or-map (part_start job) (parts job.numbers) p kind.Detector AbsentV h in rw e (fits_kind job (kind_of job.numbers p));
+}
+
+abbrev world_of : ShapeNumbers → List PartView → WorldView
+world_of n items = record { shape = n; parts = items }
+
+pub world_made : (n : ShapeNumbers) (job : Job) (items : List PartView) → n ≡ job.numbers → items ≡ map (part_start job) (parts n) → IsWorld (record { shape = n; parts = items })
+world_made n job items e f =
+    let same : start_of job ≡ world_of n items = sym (ap (λ made. world_of n made) f ∙ ap (λ m. world_of m (map (part_start job) (parts m))) e) in
+    let P : WorldView → Type 0 = λ w. IsWorld w in
+    subst P same (start_is_world job)
+
+-- A job whose sections are not at fault.
+
+fits_by : (n : ShapeNumbers) (f : FillLine) (there past : Bool) → nat_lt n.mem (f.address + length f.bytes) ≡ past →
+    (if not there then Some (fault_at f.line fault.BadThread) else if past then Some (fault_at f.line fault.BadFill) else None) ≡ None → f.address + length f.bytes ≤ n.mem
+fits_by n f false past e none = absurd cc
+fits_by n f true true e none = absurd cc
+fits_by n f true false e none = grind (arith, nat_tests)
+
+fill_within : (n : ShapeNumbers) (f : FillLine) → fill_fault n f ≡ None → IsWithin n.mem f
+fill_within n f e = record { end = fits_by n f (has_thread n f.thread) (nat_lt n.mem (f.address + length f.bytes)) refl e }
+
+fills_by : (n : ShapeNumbers) (fills : List FillLine) → AllByRecursion (λ f. fill_fault n f ≡ None) fills → AllByRecursion (IsWithin n.mem) fills
+fills_by n [] all = tt
+fills_by n (f ∷ fs) all = (fill_within n f all.0, fills_by n fs all.1)
+
+pub fills_within : (job : Job) → section_fault job ≡ None → AllByRecursion (IsWithin job.numbers.mem) job.fills
+fills_within job e =
+    let both = sooner_neither (soonest (code_fault job.numbers) job.codes) (soonest (fill_fault job.numbers) job.fills) e in
+    fills_by job.numbers job.fills (none_soonest (fill_fault job.numbers) job.fills both.1)

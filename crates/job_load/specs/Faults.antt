@@ -1,0 +1,110 @@
+-- The faults of a job that makes no machine, in the order in which they refuse it.
+use Rattle.std.specs.Prelude.{ℕ, ◌+◌, min, not, List, [], ◌∷◌, length, map, nat_lt, Option, Some, None, option_map, if◌then◌else◌}
+use Rattle.std.specs.List.{reduce}
+use Rattle.tn_base.specs.declared.shape.ShapeFault.{ShapeFault}
+use Rattle.tn_base.specs.declared.shape.ShapeFault.TheVariants as number
+use Rattle.tn_base.specs.declared.shape.ShapeNumbers.{ShapeNumbers}
+use Rattle.tn_base.specs.Address.{has_thread, has_tile}
+use Rattle.tn_base.specs.Parts.{tile_count}
+use Rattle.tn_base.specs.Shape.{first_fault}
+use Rattle.job_text.specs.declared.job.CodeSection.{CodeSection}
+use Rattle.job_text.specs.declared.job.FillLine.{FillLine}
+use Rattle.job_text.specs.declared.job.Job.{Job}
+use Rattle.job_text.specs.declared.job.Owner.{Owner}
+use Rattle.job_text.specs.declared.job.Owner.TheVariants as owner
+use Rattle.job_load.specs.declared.fault.FaultName.{FaultName}
+use Rattle.job_load.specs.declared.fault.FaultName.TheVariants as fault
+use Rattle.job_load.specs.declared.fault.LoadFault.{LoadFault}
+use Rattle.job_load.specs.Code.{lacks_code}
+use Rattle.job_load.specs.Names.{name_of_number}
+
+abbrev pub fault_at : ℕ → FaultName → LoadFault
+fault_at line kind = record { line = line; kind = kind }
+
+-- the line of the shape
+abbrev pub shape_line : ShapeNumbers → ℕ
+shape_line lines = lines.boards_x
+
+-- 1. A number of the machine.
+
+-- the line that gives a number: that of its setting, or of the shape. Of the memory of all threads together it is the shape's
+abbrev pub number_line : ShapeFault → ShapeNumbers → ℕ
+number_line number.Version lines = shape_line lines
+number_line number.Boards lines = shape_line lines
+number_line number.Tiles lines = shape_line lines
+number_line number.Cores lines = shape_line lines
+number_line number.Threads lines = shape_line lines
+number_line number.Slots lines = lines.slots
+number_line number.Link lines = lines.link
+number_line number.Mem lines = lines.mem
+number_line number.Total lines = shape_line lines
+number_line number.Fuel lines = lines.fuel
+number_line number.Turn lines = lines.turn
+
+-- the first number that is outside its limits
+abbrev pub number_fault : Job → Option LoadFault
+number_fault job = option_map (λ f. fault_at (number_line f job.number_lines) (name_of_number f)) (first_fault job.numbers)
+
+-- 2. What the machine does not have yet.
+
+-- the earlier one of two lines
+abbrev pub earlier : Option ℕ → Option ℕ → Option ℕ
+earlier None line = line
+earlier (Some a) None = Some a
+earlier (Some a) (Some b) = Some (min a b)
+
+-- the first of the lines on which these stand
+abbrev pub first_line : {X : Type 0} → (X → ℕ) → List X → Option ℕ
+first_line line items = reduce min (map line items)
+
+-- the shape's line, where the machine has more than one tile
+abbrev pub tiles_line : ShapeNumbers → ShapeNumbers → Option ℕ
+tiles_line numbers lines = if nat_lt 1 (tile_count numbers) then Some (shape_line lines) else None
+
+-- the first line that gives what is not there yet: more than one tile, assembly, a table, a script, or a graph
+abbrev pub unbuilt_line : Job → Option ℕ
+unbuilt_line job =
+    earlier (tiles_line job.numbers job.number_lines)
+    (earlier (first_line (λ section. section.line) job.asms)
+    (earlier (first_line (λ table. table.line) job.tables)
+    (earlier (first_line (λ item. item.line) job.script)
+    (option_map (λ graph. graph.line) job.graph))))
+
+abbrev pub unbuilt_fault : Job → Option LoadFault
+unbuilt_fault job = option_map (λ line. fault_at line fault.UnsupportedYet) (unbuilt_line job)
+
+-- 3. Sections that name what the machine does not have.
+
+-- the one of two faults that stands on the earlier line
+abbrev pub sooner : Option LoadFault → Option LoadFault → Option LoadFault
+sooner None b = b
+sooner (Some a) None = Some a
+sooner (Some a) (Some b) = if nat_lt b.line a.line then Some b else Some a
+
+-- the first fault in order of lines
+abbrev pub soonest : {X : Type 0} → (X → Option LoadFault) → List X → Option LoadFault
+soonest test [] = None
+soonest test (x ∷ xs) = sooner (test x) (soonest test xs)
+
+abbrev pub owner_fault : ShapeNumbers → ℕ → Owner → Option LoadFault
+owner_fault n line owner.All = None
+owner_fault n line (owner.Tile tile) = if has_tile n tile then None else Some (fault_at line fault.BadTile)
+
+-- the code of a tile that is not there
+abbrev pub code_fault : ShapeNumbers → CodeSection → Option LoadFault
+code_fault n section = owner_fault n section.line section.owner
+
+-- the bytes of a thread that is not there, or bytes past the end of its memory
+abbrev pub fill_fault : ShapeNumbers → FillLine → Option LoadFault
+fill_fault n fill =
+    if not (has_thread n fill.thread) then Some (fault_at fill.line fault.BadThread)
+    else if nat_lt n.mem (fill.address + length fill.bytes) then Some (fault_at fill.line fault.BadFill)
+    else None
+
+abbrev pub section_fault : Job → Option LoadFault
+section_fault job = sooner (soonest (code_fault job.numbers) job.codes) (soonest (fill_fault job.numbers) job.fills)
+
+-- 4. A tile without code.
+
+abbrev pub missing_fault : Job → Option LoadFault
+missing_fault job = if lacks_code job.numbers job.codes then Some (fault_at (shape_line job.number_lines) fault.NoCode) else None

@@ -1,0 +1,42 @@
+-- The memory of threads at the start.
+use Rattle.std.specs.Prelude.{ℕ, ◌≡◌, ◌≤◌, ◌+◌, ◌-◌, ◌==◌, ◌++◌, List, [], ◌∷◌, drop, filter, length, replicate, slice_index_or, take}
+use Rattle.job_text.specs.declared.job.FillLine.{FillLine}
+
+-- memory with other bytes from an address on
+abbrev pub laid : List ℕ → ℕ → List ℕ → List ℕ
+laid memory address bytes = take address memory ++ bytes ++ drop (address + length bytes) memory
+
+-- memory after fills in order: where two give a byte, the later one wins
+abbrev pub overlaid : List ℕ → List FillLine → List ℕ
+overlaid memory [] = memory
+overlaid memory (f ∷ fs) = overlaid (laid memory f.address f.bytes) fs
+
+abbrev pub fills_of : ℕ → List FillLine → List FillLine
+fills_of thread fills = filter (λ f. f.thread == thread) fills
+
+-- the memory of a thread: what the fills of its address say, and zeros elsewhere
+abbrev pub memory_of : ℕ → List FillLine → ℕ → List ℕ
+memory_of size fills thread = overlaid (replicate size 0) (fills_of thread fills)
+
+-- An image is the front of a memory that has zeros behind it.
+
+-- the memory of this size
+abbrev pub filled : ℕ → List ℕ → List ℕ
+filled size image = image ++ replicate (size - length image) 0
+
+-- an image with other bytes from an address on, which is as long as need be
+abbrev pub image_with : List ℕ → ℕ → List ℕ → List ℕ
+image_with image address bytes = laid (filled (address + length bytes) image) address bytes
+
+-- the image at a thread's address
+abbrev pub image_at : List (List ℕ) → ℕ → List ℕ
+image_at images thread = slice_index_or images thread []
+
+-- a fill ends within a memory of this size
+pub record IsWithin (size : ℕ) (f : FillLine) : Type 0 where
+  pub end : f.address + length f.bytes ≤ size
+
+-- the images of the threads after fills
+pub record AreImages (size : ℕ) (fills : List FillLine) (images : List (List ℕ)) : Type 0 where
+  pub memory : (thread : ℕ) → filled size (image_at images thread) ≡ memory_of size fills thread
+  pub few : (thread : ℕ) → length (image_at images thread) ≤ size

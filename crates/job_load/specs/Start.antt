@@ -1,0 +1,53 @@
+-- A job's machine at its start.
+use Rattle.std.specs.Prelude.{ℕ, IsTrue, List, None, map}
+use Rattle.std.specs.List.{range_with_len}
+use Rattle.tn_base.specs.declared.part.Kind.{Kind}
+use Rattle.tn_base.specs.declared.part.Kind.TheVariants as kind
+use Rattle.tn_base.specs.declared.shape.ShapeNumbers.{ShapeNumbers}
+use Rattle.tn_base.specs.Address.{has_tile, in_tile, tile_threads}
+use Rattle.tn_base.specs.Parts.{parts}
+use Rattle.tn_rows.specs.PartView.{PartView, TileV, AbsentV}
+use Rattle.tn_rows.specs.WorldView.{WorldView}
+use Rattle.tn_thread.specs.declared.thread.Thread.{Thread}
+use Rattle.tn_thread.specs.Step.{started}
+use Rattle.tn_tile.specs.Kept.{fresh_tile}
+use Rattle.tn_tile.specs.TileView.{TileView}
+use Rattle.job_text.specs.declared.job.Job.{Job}
+use Rattle.job_load.specs.Code.{code_of}
+use Rattle.job_load.specs.Images.{image_at, memory_of}
+
+-- the threads of a tile by ascending address, each as its address says
+abbrev pub by_address : (ℕ → Thread) → ShapeNumbers → ℕ → List Thread
+by_address thread n tile = map (λ k. thread (in_tile n tile k)) (range_with_len 0 (tile_threads n))
+
+-- a thread at its start, with the memory that the job's fills say
+abbrev pub thread_start : Job → ℕ → Thread
+thread_start job thread = started job.numbers (record { 0 = thread }) (memory_of job.numbers.mem job.fills thread) None
+
+-- the same over an image, which has zeros behind it
+abbrev pub thread_over : ShapeNumbers → List (List ℕ) → ℕ → Thread
+thread_over n images thread = started n (record { 0 = thread }) (image_at images thread) None
+
+-- a tile at its start, over its code and its threads: nothing was sent yet, and nothing was dropped
+abbrev pub tile_start : Job → ℕ → TileView
+tile_start job tile = fresh_tile job.numbers tile (code_of job.codes tile) (by_address (thread_start job) job.numbers tile)
+
+-- a part at its start; of the parts there are tiles by now
+abbrev pub part_start : Job → Kind → PartView
+part_start job (kind.Tile tile) = TileV (tile_start job tile.0)
+part_start job kind.Host = AbsentV
+part_start job (kind.Router board) = AbsentV
+part_start job (kind.Link from onto) = AbsentV
+part_start job kind.Detector = AbsentV
+
+-- the machine at its start: one part for each part of its shape
+abbrev pub start_of : Job → WorldView
+start_of job = record { shape = job.numbers; parts = map (part_start job) (parts job.numbers) }
+
+-- where the kind is that of a tile, the machine has it
+abbrev pub NamesTile : ShapeNumbers → Kind → Type 0
+NamesTile n (kind.Tile tile) = IsTrue (has_tile n tile.0)
+NamesTile n kind.Host = Unit {0}
+NamesTile n (kind.Router board) = Unit {0}
+NamesTile n (kind.Link from onto) = Unit {0}
+NamesTile n kind.Detector = Unit {0}

@@ -1,0 +1,16 @@
+//! From a job to its machine at the start, or to the first fault.
+//!
+//! The faults in their order stand in `specs/Faults.antt`, the start in `specs/Start.antt`. Read `load::load` first.
+#![tactic(auto)]
+
+mod code;
+pub mod fault;
+mod image;
+pub mod laws;
+pub mod load;
+mod numbers;
+mod sections;
+mod start;
+#[cfg(test)]
+mod tests;
+mod unbuilt;

@@ -1,0 +1,38 @@
+//! Loading a job.
+
+ghost use Rattle.std.specs.Prelude.{◌≡◌};
+ghost use Rattle.job_load.specs.Gives.{Gives};
+ghost use Rattle.job_load.specs.Loaded.{loaded};
+
+use crate::code::missing_fault;
+use crate::fault::LoadStop;
+use crate::numbers::shape_of;
+use crate::sections::section_fault;
+use crate::start::start_of;
+use crate::unbuilt::unbuilt_fault;
+use job_text::job::Job;
+use std::alloc::Global;
+use tn_world::world::World;
+
+/// The machine of a job at its start, or the first fault: a number outside its limits; what the machine does not have
+/// yet, the first in order of lines; a section that names what the machine does not have, the first in order of lines; a
+/// tile without code. At the start no thread has made a step, no message stands anywhere, none was dropped, and no part
+/// tells an end.
+pub fn load(alloc: Global, job: &Job) -> Result<World, LoadStop>
+    ensures { Gives result (loaded job.now) }
+{
+    let shape = match shape_of(job) {
+        Ok(shape) => shape,
+        Err(fault) => return Err(LoadStop::Fault(fault)),
+    };
+    if let Some(fault) = unbuilt_fault(&shape, job) {
+        return Err(LoadStop::Fault(fault));
+    }
+    if let Some(fault) = section_fault(&shape, job) {
+        return Err(LoadStop::Fault(fault));
+    }
+    if let Some(fault) = missing_fault(&shape, job) {
+        return Err(LoadStop::Fault(fault));
+    }
+    Ok(start_of(alloc, &shape, job)?)
+}

@@ -1,0 +1,115 @@
+//! A job's machine at its start.
+
+ghost use Rattle.std.specs.Prelude.{◌≡◌, ◌≤◌, ℕ, IfOk, IsTrue, None, length, map};
+ghost use Rattle.tn_base.specs.Address.{has_tile};
+ghost use Rattle.tn_base.specs.Parts.{parts, tile_at, tile_count};
+ghost use Rattle.job_load.specs.Faults.{section_fault};
+ghost use Rattle.job_load.specs.Images.{AreImages, image_at};
+ghost use Rattle.job_load.specs.Start.{NamesTile, by_address, part_start, start_of, thread_over, tile_start};
+
+use crate::code::code_of;
+use crate::image::Images;
+use job_text::job::Job;
+use std::alloc::{AllocError, Global};
+use tn_base::ids::{PartId, TileId};
+use tn_base::laws::law_tiles;
+use tn_base::part::Kind;
+use tn_base::shape::Shape;
+use tn_thread::thread::Thread;
+use tn_tile::tile::Tile;
+use tn_world::part::Part;
+use tn_world::world::World;
+
+/// The threads of a tile over their images.
+fn threads_of(
+    alloc: Global,
+    shape: &Shape,
+    images: &Images,
+    tile: TileId,
+) -> Result<Vec<Thread>, AllocError>
+    requires tile { IsTrue (has_tile shape.now tile.0) }
+    requires images { (k : ℕ) → length (image_at images.now k) ≤ shape.now.mem }
+    ensures { IfOk result (λ threads. threads.items ≡ by_address (thread_over shape.now images.now) shape.now tile.0) }
+{
+    let count = shape.tile_threads();
+    let mut threads = Vec::with_capacity(alloc, count as usize)?;
+    for place in 0..count {
+        let id = shape.thread_in_tile(tile, place);
+        let thread = Thread::start(alloc, shape, id, images.image(id), None)?;
+        threads.push(thread)?;
+    }
+    Ok(threads)
+}
+
+/// A tile over its code and its threads.
+fn tile_of(
+    alloc: Global,
+    shape: &Shape,
+    images: &Images,
+    job: &Job,
+    tile: TileId,
+) -> Result<Tile, AllocError>
+    requires tile { IsTrue (has_tile shape.now tile.0) }
+    requires numbers { shape.now ≡ job.now.numbers }
+    requires images { AreImages shape.now.mem job.now.fills images.now }
+    ensures { IfOk result (λ t. t ≡ tile_start job.now tile.0) }
+{
+    let threads = threads_of(alloc, shape, images, tile)?;
+    Tile::of(
+        alloc,
+        shape,
+        tile,
+        code_of(job.codes.as_slice(), tile),
+        threads,
+    )
+}
+
+/// A part of this kind.
+fn part_of(
+    alloc: Global,
+    shape: &Shape,
+    images: &Images,
+    job: &Job,
+    kind: Kind,
+) -> Result<Part, AllocError>
+    requires kind { NamesTile shape.now kind }
+    requires numbers { shape.now ≡ job.now.numbers }
+    requires images { AreImages shape.now.mem job.now.fills images.now }
+    ensures { IfOk result (λ part. part ≡ part_start job.now kind) }
+{
+    match kind {
+        Kind::Tile(tile) => Ok(Part::tile(tile_of(alloc, shape, images, job, tile)?)),
+        _ => Ok(Part::absent()),
+    }
+}
+
+/// One part for each part of the shape.
+fn parts_of(
+    alloc: Global,
+    shape: &Shape,
+    images: &Images,
+    job: &Job,
+) -> Result<Vec<Part>, AllocError>
+    requires numbers { shape.now ≡ job.now.numbers }
+    requires images { AreImages shape.now.mem job.now.fills images.now }
+    ensures { IfOk result (λ all. all.items ≡ map (part_start job.now) (parts shape.now)) }
+{
+    law_tiles(shape);
+    let count = shape.part_count();
+    let mut all = Vec::with_capacity(alloc, count as usize)?;
+    for p in 0..count {
+        all.push(part_of(alloc, shape, images, job, shape.kind(PartId(p)))?)?;
+    }
+    Ok(all)
+}
+
+/// The machine at its start, of a job whose sections name only what the machine has.
+pub(crate) fn start_of(alloc: Global, shape: &Shape, job: &Job) -> Result<World, AllocError>
+    requires numbers { shape.now ≡ job.now.numbers }
+    requires sections { section_fault job.now ≡ None }
+    ensures { IfOk result (λ world. world ≡ start_of job.now) }
+{
+    let images = Images::of(alloc, shape.numbers().mem, job.fills.as_slice())?;
+    let parts = parts_of(alloc, shape, &images, job)?;
+    Ok(World::of(*shape, parts))
+}

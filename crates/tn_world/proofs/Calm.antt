@@ -1,0 +1,97 @@
+-- Runs of longest turns in which no event is final yet.
+use Rattle.std.specs.declared.option.Option.{Option}
+use Rattle.std.specs.declared.result.Result.{Result}
+use Rattle.std.specs.declared.result.Result.TheVariants.{Ok, Err}
+use Rattle.std.proofs.Common.{◌≡◌, ℕ, ◌≤◌, ◌<◌, length, length-append, is_some, true, false, arith, List, [], ◌∷◌, ◌++◌, None, Some, refl, sym, subst, MatchOption, MatchResult, IsErr}
+use Rattle.tn_base.specs.declared.event.Event.{Event}
+use Rattle.tn_base.specs.declared.event.Outcome.{Outcome}
+use Rattle.tn_rows.specs.Ends.{final_after, final_of, last_of}
+use Rattle.tn_rows.specs.Events.{happened, Rests}
+use Rattle.tn_rows.specs.Runs.{IsLongest, LongRun}
+use Rattle.tn_rows.specs.WorldView.{WorldView}
+use Rattle.tn_world.specs.Plays.{Makes, Played, Reached}
+
+-- each event is enabled in turn, turns are the longest, and none is final
+abbrev pub Calm : WorldView → List Event → WorldView → Type 0
+Calm start [] end = start ≡ end
+Calm start (e ∷ es) end = (mid : WorldView) × (happened e start ≡ Some mid) × IsLongest e start × (final_of e mid ≡ None) × Calm mid es end
+
+pub calm_runs : (start : WorldView) (history : List Event) (end : WorldView) → Calm start history end → LongRun start history end
+calm_runs start [] end h = h
+calm_runs start (e ∷ es) end h = (h.0, h.1, h.2, λ _. h.3, calm_runs h.0 es end h.4)
+
+pub calm_last : (start : WorldView) (history : List Event) (end : WorldView) → Calm start history end → final_after (last_of history) end ≡ None
+calm_last start [] end h = refl
+calm_last start (e ∷ []) end h = subst (λ (m : WorldView). final_of e m ≡ None) h.4 h.3
+calm_last start (e ∷ f ∷ es) end h = calm_last h.0 (f ∷ es) end h.4
+
+-- one more event that is not final
+pub calm_more : (start : WorldView) (history : List Event) (mid end : WorldView) (e : Event) → Calm start history mid → Makes e mid end → final_of e end ≡ None → Calm start (history ++ e ∷ []) end
+calm_more start [] mid end e h step calm =
+    let s : Makes e start end = subst (λ (m : WorldView). Makes e m end) (sym h) step in
+    (end, s.happens, s.longest, calm, refl)
+calm_more start (f ∷ fs) mid end e h step calm = (h.0, h.1, h.2, h.3, calm_more h.0 fs mid end e h.4 step calm)
+
+-- the last event may be final
+pub calm_final : (start : WorldView) (history : List Event) (mid end : WorldView) (e : Event) → Calm start history mid → Makes e mid end → LongRun start (history ++ e ∷ []) end
+calm_final start [] mid end e h step =
+    let s : Makes e start end = subst (λ (m : WorldView). Makes e m end) (sym h) step in
+    (end, s.happens, s.longest, λ ne. absurd (ne refl), refl)
+calm_final start (f ∷ fs) mid end e h step = (h.0, h.1, h.2, λ _. h.3, calm_final h.0 fs mid end e h.4 step)
+
+pub last_of-append : (history : List Event) (e : Event) → last_of (history ++ e ∷ []) ≡ Some e
+last_of-append [] e = refl
+last_of-append (f ∷ []) e = refl
+last_of-append (f ∷ g ∷ gs) e = last_of-append (g ∷ gs) e
+
+-- a run that ends with a final event
+pub stops_final : (history : List Event) (e : Event) (m : WorldView) (o : Outcome) → final_of e m ≡ Some o → MatchOption (final_after (last_of (history ++ e ∷ [])) m) (Rests m) (λ o. Unit {0})
+stops_final history e m o p = rw (last_of-append history e, p) (tt)
+
+-- a run after which no event is enabled
+pub stops_rest : (start : WorldView) (history : List Event) (m : WorldView) → Calm start history m → Rests m → MatchOption (final_after (last_of history) m) (Rests m) (λ o. Unit {0})
+stops_rest start history m h rests = rw (calm_last start history m h) rests
+
+-- what `play` leaves at each of its ends
+pub played_rest : (limit : ℕ) (start : WorldView) (history : List Event) (mid end : WorldView) → Calm start history mid → length history ≤ limit → end ≡ mid → Rests mid → Played limit start history end
+played_rest limit start history mid end calm few same rests = rw same (record {
+  run = calm_runs start history mid calm;
+  few = few;
+  stops = λ _. stops_rest start history mid calm rests;
+})
+
+pub played_limit : (limit : ℕ) (start : WorldView) (history : List Event) (end : WorldView) → Calm start history end → length history ≤ limit → limit ≤ length history → Played limit start history end
+played_limit limit start history end calm few all = record {
+  run = calm_runs start history end calm;
+  few = few;
+  stops = λ h. absurd (omega (arith, all, h));
+}
+
+final_by : (o : Option Outcome) (history : List Event) (e : Event) (m : WorldView) → final_of e m ≡ o → is_some o ≡ true → MatchOption (final_after (last_of (history ++ e ∷ [])) m) (Rests m) (λ o. Unit {0})
+final_by None history e m is some = cc some
+final_by (Some o) history e m is some = stops_final history e m o is
+
+pub played_final : (limit : ℕ) (start : WorldView) (history now : List Event) (mid end : WorldView) (e : Event) → Calm start history mid → length history < limit → now ≡ history ++ e ∷ [] → Makes e mid end → is_some (final_of e end) ≡ true → Played limit start now end
+played_final limit start history now mid end e calm less is step some = rw is (record {
+  run = calm_final start history mid end e calm step;
+  few = omega (arith, less, length-append history (e ∷ []));
+  stops = λ _. final_by (final_of e end) history e end refl some;
+})
+
+not_final : (o : Option Outcome) → is_some o ≡ false → o ≡ None
+not_final None e = refl
+not_final (Some o) e = cc e
+
+pub calm_on : (limit : ℕ) (start : WorldView) (history now : List Event) (mid end : WorldView) (e : Event) → Calm start history mid → length history < limit → now ≡ history ++ e ∷ [] → Makes e mid end → is_some (final_of e end) ≡ false → Calm start now end × (length now ≤ limit)
+calm_on limit start history now mid end e calm less is step not = rw is (
+  calm_more start history mid end e calm step (not_final (final_of e end) not),
+  omega (arith, less, length-append history (e ∷ [])),
+)
+
+pub reached : (start : WorldView) (history : List Event) (mid end : WorldView) (e : Event) → Calm start history mid → Makes e mid end → Reached start end
+reached start history mid end e calm step = (history ++ e ∷ [], calm_final start history mid end e calm step)
+
+-- a call that failed
+pub on_error : {X E : Type 0} (r : Result X E) (P : X → Type 0) (Q : Type 0) → IsErr r → Q → MatchResult r P (λ _. Q)
+on_error (Ok x) P Q err q = cc err
+on_error (Err e) P Q err q = q

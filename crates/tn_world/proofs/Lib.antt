@@ -1,0 +1,5 @@
+pub mod Calm
+pub mod Keeping
+pub mod Listed
+pub mod Places
+pub mod Steps
