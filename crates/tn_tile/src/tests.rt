@@ -62,57 +62,62 @@ fn first_tile(alloc: Global, n: ShapeNumbers, words: &[u32]) -> Result<Tile, Fai
     Ok(tile)
 }
 
-/// A turn of a thread, if it is one of the tile's.
-fn turn(tile: &mut Tile, id: u32) -> Turned {
-    if tile.is_here(ThreadId(id)) {
-        tile.turn(ThreadId(id))
-    } else {
-        Turned::Nothing
+/// How many steps a turn of a thread makes.
+fn turn(tile: &mut Tile, id: u32) -> u32 {
+    if !tile.is_here(ThreadId(id)) {
+        return 0;
+    }
+    match tile.turn(ThreadId(id)) {
+        Turned::Moved(made) => made,
+        Turned::Nothing => 0,
     }
 }
 
-/// At most so many steps of a thread.
-fn steps(tile: &mut Tile, id: u32, most: u32) -> Option<u32> {
+/// How many of so many steps a thread makes.
+fn steps(tile: &mut Tile, id: u32, most: u32) -> u32 {
     if most <= 64 && tile.is_here(ThreadId(id)) && tile.counts() {
-        Some(tile.turn_up_to(ThreadId(id), most))
+        tile.turn_up_to(ThreadId(id), most)
     } else {
-        None
+        0
     }
 }
 
-/// A delivery of what a thread sent.
-fn deliver(tile: &mut Tile, id: u32) -> Did {
-    if tile.is_here(ThreadId(id)) {
-        tile.deliver(ThreadId(id))
-    } else {
-        Did::Nothing
+/// Whether what a thread sent is delivered.
+fn deliver(tile: &mut Tile, id: u32) -> bool {
+    if !tile.is_here(ThreadId(id)) {
+        return false;
+    }
+    match tile.deliver(ThreadId(id)) {
+        Did::Moved => true,
+        Did::Nothing => false,
     }
 }
 
-/// What a thread does at the end.
-fn state(tile: &Tile, id: u32) -> Option<ThreadState> {
-    if tile.is_here(ThreadId(id)) {
-        Some(*tile.thread(ThreadId(id)).state())
-    } else {
-        None
-    }
+/// Whether a thread does this.
+fn does(tile: &Tile, id: u32, state: ThreadState) -> bool {
+    tile.is_here(ThreadId(id)) && *tile.thread(ThreadId(id)).state() == state
 }
 
-/// Deliveries and turns of the threads of one core in order, until nothing moves or a thread traps.
-fn run(tile: &mut Tile, ids: &[u32]) {
+/// Deliveries and turns of the first threads of the tile's first core.
+fn round(tile: &mut Tile, threads: u32) -> bool {
+    let mut moved = false;
+    for id in 0..threads {
+        if deliver(tile, id) {
+            moved = true;
+        }
+    }
+    for id in 0..threads {
+        if turn(tile, id) != 0 {
+            moved = true;
+        }
+    }
+    moved
+}
+
+/// Rounds until nothing moves.
+fn run(tile: &mut Tile, threads: u32) {
     for _round in 0..1000 {
-        let mut moved = false;
-        for id in ids {
-            if deliver(tile, *id) == Did::Moved {
-                moved = true;
-            }
-        }
-        for id in ids {
-            if turn(tile, *id) != Turned::Nothing {
-                moved = true;
-            }
-        }
-        if !moved || tile.ended().is_some() {
+        if !round(tile, threads) {
             return;
         }
     }
@@ -165,66 +170,63 @@ const EIGHT_FLITS: [u32; 12] = [
     0x80b5_1073,
 ];
 
-/// One thread runs these words: what it ends with, and how many letters were dropped.
+/// Whether one thread over these words ends so, with so many letters dropped.
 fn ends(
     alloc: Global,
     version: u32,
     words: &[u32],
-) -> Result<(Option<ThreadState>, u64, Option<(ThreadId, Trap)>), Fail> {
+    state: ThreadState,
+    dropped: u64,
+) -> Result<bool, Fail> {
     let mut tile = first_tile(alloc, machine(version, 1, 1), words)?;
-    run(&mut tile, &[0]);
-    Ok((state(&tile, 0), tile.dropped(), tile.ended()))
+    run(&mut tile, 1);
+    Ok(does(&tile, 0, state) && tile.dropped() == dropped)
 }
 
-/// How a thread that ends with a value, or traps, leaves its tile.
-fn dead(value: u32, dropped: u64) -> (Option<ThreadState>, u64, Option<(ThreadId, Trap)>) {
-    (Some(ThreadState::Dead(value)), dropped, None)
-}
-
-fn trapped(why: Trap) -> (Option<ThreadState>, u64, Option<(ThreadId, Trap)>) {
-    (Some(ThreadState::Trapped(why)), 0, Some((ThreadId(0), why)))
+/// Whether one thread over these words ends in a trap, which the tile notes.
+fn traps(alloc: Global, version: u32, words: &[u32], why: Trap) -> Result<bool, Fail> {
+    let mut tile = first_tile(alloc, machine(version, 1, 1), words)?;
+    run(&mut tile, 1);
+    Ok(does(&tile, 0, ThreadState::Trapped(why)) && tile.ended() == Some((ThreadId(0), why)))
 }
 
 #[test]
 fn one_thread(rt: HostRuntime) -> Result<(), Fail> {
-    assert_eq!(rt; ends(rt.alloc(), 1, &TO_ITSELF)?, dead(77, 0));
-    assert_eq!(rt; ends(rt.alloc(), 1, &FREED_TWICE)?, trapped(Trap::BadFree));
-    assert_eq!(rt; ends(rt.alloc(), 2, &EIGHT_FLITS)?, dead(77, 0));
-    assert_eq!(rt;
-        ends(rt.alloc(), 1, &EIGHT_FLITS)?,
-        trapped(Trap::BadAddress)
-    );
-    assert_eq!(rt;
-        ends(rt.alloc(), 1, &[0x8070_25f3])?,
-        trapped(Trap::RecvEmpty)
-    );
-    assert_eq!(rt; ends(rt.alloc(), 1, &[0])?, trapped(Trap::BadInstr));
-    assert_eq!(rt; ends(rt.alloc(), 1, &[])?, trapped(Trap::BadFetch));
     let dies = [0x8030_1073, 0x8060_1073, 0x80b0_1073];
-    assert_eq!(rt; ends(rt.alloc(), 1, &dies)?, dead(0, 1));
+    assert!(rt; ends(rt.alloc(), 1, &TO_ITSELF, ThreadState::Dead(77), 0)?);
+    assert!(rt; ends(rt.alloc(), 2, &EIGHT_FLITS, ThreadState::Dead(77), 0)?);
+    assert!(rt; ends(rt.alloc(), 1, &dies, ThreadState::Dead(0), 1)?);
     Ok(())
 }
 
 #[test]
-fn many_threads(rt: HostRuntime) -> Result<(), Fail> {
-    let own_name = [0xf140_2573, 0x80b5_1073];
-    let mut all = first_tile(
-        rt.alloc(),
-        ShapeNumbers {
-            cores: 4,
-            ..machine(1, 1, 16)
-        },
-        &own_name,
-    )?;
+fn one_thread_traps(rt: HostRuntime) -> Result<(), Fail> {
+    assert!(rt; traps(rt.alloc(), 1, &FREED_TWICE, Trap::BadFree)?);
+    assert!(rt; traps(rt.alloc(), 1, &EIGHT_FLITS, Trap::BadAddress)?);
+    assert!(rt; traps(rt.alloc(), 1, &[0x8070_25f3], Trap::RecvEmpty)?);
+    assert!(rt; traps(rt.alloc(), 1, &[0x0000_0013, 0], Trap::BadInstr)?);
+    assert!(rt; traps(rt.alloc(), 1, &[0x0000_0013], Trap::BadFetch)?);
+    Ok(())
+}
+
+/// Whether each of 64 threads ends with its own name.
+fn each_name(alloc: Global) -> Result<bool, Fail> {
+    let n = ShapeNumbers {
+        cores: 4,
+        ..machine(1, 1, 16)
+    };
+    let mut tile = first_tile(alloc, n, &[0xf140_2573, 0x80b5_1073])?;
     for id in 0..64 {
-        assert_eq!(rt; turn(&mut all, id), Turned::Moved(2));
-        assert!(rt;
-            state(&all, id) == Some(ThreadState::Dead(id)),
-            "thread {id}"
-        );
+        if turn(&mut tile, id) != 2 || !does(&tile, id, ThreadState::Dead(id)) {
+            return Ok(false);
+        }
     }
-    assert_eq!(rt; turn(&mut all, 64), Turned::Nothing);
-    let both_die = [
+    Ok(turn(&mut tile, 64) == 0 && !tile.live())
+}
+
+/// Whether a message for both threads is dropped twice, since both have died.
+fn both_die(alloc: Global) -> Result<bool, Fail> {
+    let words = [
         0xf140_2573,
         0x0005_1a63,
         0x0030_0593,
@@ -233,47 +235,64 @@ fn many_threads(rt: HostRuntime) -> Result<(), Fail> {
         0x8065_9073,
         0x80b0_1073,
     ];
-    let mut two = first_tile(rt.alloc(), machine(1, 1, 2), &both_die)?;
-    run(&mut two, &[0, 1]);
-    assert!(rt; state(&two, 0) == Some(ThreadState::Dead(0)));
-    assert!(rt; state(&two, 1) == Some(ThreadState::Dead(0)));
-    assert_eq!(rt; two.dropped(), 2);
-    assert!(rt; two.still() && !two.live() && two.votes());
+    let mut tile = first_tile(alloc, machine(1, 1, 2), &words)?;
+    run(&mut tile, 2);
+    let died = does(&tile, 0, ThreadState::Dead(0)) && does(&tile, 1, ThreadState::Dead(0));
+    Ok(died && tile.dropped() == 2)
+}
+
+#[test]
+fn many_threads(rt: HostRuntime) -> Result<(), Fail> {
+    assert!(rt; each_name(rt.alloc())?);
+    assert!(rt; both_die(rt.alloc())?);
     Ok(())
+}
+
+/// A thread that spins, with fuel for so many steps.
+fn spinning(alloc: Global, fuel: u32) -> Result<Tile, Fail> {
+    let n = ShapeNumbers {
+        fuel,
+        ..machine(1, 1, 1)
+    };
+    first_tile(alloc, n, &[0x0000_006f])
+}
+
+/// Whether 100 steps are six turns of 16 steps and one of four.
+fn fuel_ends(alloc: Global) -> Result<bool, Fail> {
+    let mut tile = spinning(alloc, 100)?;
+    for _turn in 0..6 {
+        if turn(&mut tile, 0) != 16 {
+            return Ok(false);
+        }
+    }
+    Ok(turn(&mut tile, 0) == 4 && turn(&mut tile, 0) == 0)
+}
+
+/// Whether shorter turns make the steps that they are asked for.
+fn fewer_steps(alloc: Global) -> Result<bool, Fail> {
+    let mut tile = spinning(alloc, 100)?;
+    let first = steps(&mut tile, 0, 0) == 0 && steps(&mut tile, 0, 5) == 5;
+    let last = steps(&mut tile, 0, 64) == 64 && steps(&mut tile, 0, 64) == 31;
+    law_turns(&tile, ThreadId(0));
+    Ok(first && last)
+}
+
+/// Whether a thread that waits for a letter makes no turn.
+fn waits(alloc: Global) -> Result<bool, Fail> {
+    let mut tile = first_tile(alloc, machine(1, 1, 1), &[0x0020_0513, 0x8095_1073])?;
+    let waited = turn(&mut tile, 0) == 2 && turn(&mut tile, 0) == 0;
+    Ok(waited && tile.live() && !tile.still() && !tile.votes())
 }
 
 #[test]
 fn turns(rt: HostRuntime) -> Result<(), Fail> {
-    let n = ShapeNumbers {
-        fuel: 100,
-        ..machine(1, 1, 1)
-    };
-    let mut spins = first_tile(rt.alloc(), n, &[0x0000_006f])?;
-    for _turn in 0..6 {
-        assert_eq!(rt; turn(&mut spins, 0), Turned::Moved(16));
-    }
-    assert_eq!(rt; turn(&mut spins, 0), Turned::Moved(4));
-    assert_eq!(rt; turn(&mut spins, 0), Turned::Nothing);
-    let mut again = first_tile(rt.alloc(), n, &[0x0000_006f])?;
-    assert_eq!(rt; steps(&mut again, 0, 0), Some(0));
-    assert_eq!(rt; steps(&mut again, 0, 5), Some(5));
-    assert_eq!(rt; steps(&mut again, 0, 64), Some(64));
-    assert_eq!(rt; steps(&mut again, 0, 64), Some(31));
-    law_turns(&again, ThreadId(0));
-    let mut waits = first_tile(rt.alloc(), n, &[0x0020_0513, 0x8095_1073])?;
-    run(&mut waits, &[0]);
-    assert_eq!(rt; turn(&mut waits, 0), Turned::Nothing);
-    assert!(rt; !waits.still() && waits.live() && !waits.votes());
-    let mut bad = first_tile(rt.alloc(), n, &[0x0000_006f, 0])?;
-    let mut ends = first_tile(rt.alloc(), n, &[0x0000_0013, 0])?;
-    assert_eq!(rt; turn(&mut ends, 0), Turned::Moved(2));
-    assert_eq!(rt; ends.ended(), Some((ThreadId(0), Trap::BadInstr)));
-    assert_eq!(rt; turn(&mut ends, 0), Turned::Nothing);
-    assert_eq!(rt; turn(&mut bad, 0), Turned::Moved(16));
+    assert!(rt; fuel_ends(rt.alloc())?);
+    assert!(rt; fewer_steps(rt.alloc())?);
+    assert!(rt; waits(rt.alloc())?);
     Ok(())
 }
 
-/// A packet from a link, taken if the tile takes it.
+/// For how many dead receivers a packet from a link is dropped, if the tile takes it.
 fn accept(tile: &mut Tile, p: &Packet) -> Option<u32> {
     if tile.counts() && tile.counter() > i64::MIN && tile.accepts(p) {
         Some(tile.accept(p))
@@ -282,7 +301,7 @@ fn accept(tile: &mut Tile, p: &Packet) -> Option<u32> {
     }
 }
 
-/// A packet gone to a link.
+/// Whether a packet goes to a link.
 fn depart(tile: &mut Tile, way: Port) -> bool {
     if tile.counter() < i64::MAX && tile.offer(way).is_some() {
         tile.depart(way);
@@ -292,9 +311,17 @@ fn depart(tile: &mut Tile, way: Port) -> bool {
     }
 }
 
-#[test]
-fn packets(rt: HostRuntime) -> Result<(), Fail> {
-    let to_host = [
+/// Whether the packet with this number waits for a way out.
+fn waits_there(tile: &Tile, way: Port, number: u32) -> bool {
+    match tile.buffer(way) {
+        Some(packet) => packet.number == number,
+        None => false,
+    }
+}
+
+/// The first of two tiles, whose thread sent two packets to the host, of which the first waits for the way up.
+fn sent_twice(alloc: Global) -> Result<Tile, Fail> {
+    let words = [
         0x4000_0537,
         0x8035_1073,
         0x8060_1073,
@@ -303,65 +330,81 @@ fn packets(rt: HostRuntime) -> Result<(), Fail> {
         0x8060_1073,
         0x80b0_1073,
     ];
-    let mut tile = first_tile(rt.alloc(), machine(1, 2, 1), &to_host)?;
-    assert_eq!(rt; turn(&mut tile, 0), Turned::Moved(5));
-    assert_eq!(rt; deliver(&mut tile, 0), Did::Moved);
-    assert_eq!(rt; tile.buffer(Port::Up).map(|p| p.number), Some(0));
-    assert!(rt; tile.buffer(Port::East).is_none());
-    assert_eq!(rt; turn(&mut tile, 0), Turned::Moved(3));
-    assert_eq!(rt; deliver(&mut tile, 0), Did::Nothing);
-    assert!(rt; depart(&mut tile, Port::Up));
-    assert!(rt; !depart(&mut tile, Port::Up));
-    assert_eq!(rt; tile.counter(), 1);
-    assert_eq!(rt; deliver(&mut tile, 0), Did::Moved);
-    assert_eq!(rt; tile.offer(Port::Up).map(|p| p.number), Some(1));
+    let mut tile = first_tile(alloc, machine(1, 2, 1), &words)?;
+    run(&mut tile, 1);
+    Ok(tile)
+}
+
+/// Whether the second packet waits until the first is gone.
+fn goes_up(alloc: Global) -> Result<bool, Fail> {
+    let mut tile = sent_twice(alloc)?;
+    let waited = waits_there(&tile, Port::Up, 0) && !deliver(&mut tile, 0);
+    let gone = depart(&mut tile, Port::Up) && !depart(&mut tile, Port::Up);
+    let next = deliver(&mut tile, 0) && waits_there(&tile, Port::Up, 1);
+    Ok(waited && gone && next && tile.counter() == 1)
+}
+
+/// A packet of 16 bytes.
+fn packet(dest: Dest) -> Result<Packet, Fail> {
     let bytes = Bytes::of(&[7; 16]).ok().ok_or("a message of 16 bytes")?;
-    let mut packet = Packet {
+    Ok(Packet {
         origin: 64,
         number: 9,
-        dest: Dest::Thread(ThreadId(0)),
+        dest,
         bytes,
-    };
-    assert_eq!(rt; accept(&mut tile, &packet), Some(1));
-    packet.dest = Dest::Mask(TileId(0), Mask::of(2));
-    assert_eq!(rt; accept(&mut tile, &packet), None);
-    packet.dest = Dest::Thread(ThreadId(64));
-    assert_eq!(rt; accept(&mut tile, &packet), Some(0));
-    assert_eq!(rt; tile.buffer(Port::East).map(|p| p.number), Some(9));
-    assert_eq!(rt; tile.counter(), -1);
-    assert!(rt; tile.black());
+    })
+}
+
+/// Whether a packet for a dead thread is dropped, one for no thread is not taken, and one for the other tile goes on.
+fn comes(alloc: Global) -> Result<bool, Fail> {
+    let mut tile = sent_twice(alloc)?;
+    let dropped = accept(&mut tile, &packet(Dest::Thread(ThreadId(0)))?) == Some(1);
+    let nobody = packet(Dest::Mask(TileId(0), Mask::of(2)))?;
+    let refused = accept(&mut tile, &nobody).is_none();
+    let on = accept(&mut tile, &packet(Dest::Thread(ThreadId(64)))?) == Some(0);
+    Ok(dropped && refused && on && waits_there(&tile, Port::East, 9))
+}
+
+/// Whether a copy keeps what it was.
+fn copies(alloc: Global) -> Result<bool, Fail> {
+    let mut tile = sent_twice(alloc)?;
+    let taken = accept(&mut tile, &packet(Dest::Thread(ThreadId(64)))?) == Some(0);
     let copied = tile.copy()?;
     tile.whiten();
-    assert!(rt; !tile.black() && copied.black());
-    assert_eq!(rt; copied.dropped(), 1);
+    Ok(taken && !tile.black() && copied.black() && copied.counter() == -1)
+}
+
+#[test]
+fn packets(rt: HostRuntime) -> Result<(), Fail> {
+    assert!(rt; goes_up(rt.alloc())?);
+    assert!(rt; comes(rt.alloc())?);
+    assert!(rt; copies(rt.alloc())?);
     Ok(())
+}
+
+/// Whether an idle thread is still, reads its answer once it is released, and ends with it.
+fn rests(alloc: Global) -> Result<bool, Fail> {
+    let mut tile = first_tile(alloc, machine(1, 1, 1), &[0x80a0_15f3, 0x80b5_9073])?;
+    let idle = turn(&mut tile, 0) == 1 && tile.still() && tile.live() && !tile.votes();
+    tile.release(1);
+    let held = tile.held() && !tile.still();
+    tile.go();
+    let ran = turn(&mut tile, 0) == 2 && does(&tile, 0, ThreadState::Dead(1));
+    Ok(idle && held && ran && !tile.held() && tile.votes())
+}
+
+/// Whether a slot tells its packet's sender until it is free.
+fn sender(alloc: Global) -> Result<bool, Fail> {
+    let mut tile = first_tile(alloc, machine(1, 1, 1), &[0x8070_25f3, 0x80b0_1073])?;
+    let taken = accept(&mut tile, &packet(Dest::Mask(TileId(0), Mask::of(1)))?) == Some(0);
+    let told = tile.sender(0) == Some((64, 9)) && tile.sender(1).is_none();
+    run(&mut tile, 1);
+    Ok(taken && told && tile.sender(0).is_none())
 }
 
 #[test]
 fn rest(rt: HostRuntime) -> Result<(), Fail> {
-    let idles = [0x80a0_15f3, 0x80b5_9073];
-    let mut tile = first_tile(rt.alloc(), machine(1, 1, 1), &idles)?;
-    assert!(rt; !tile.still());
-    assert_eq!(rt; turn(&mut tile, 0), Turned::Moved(1));
-    assert!(rt; tile.still() && tile.live() && !tile.votes());
-    tile.release(1);
-    assert!(rt; tile.held() && !tile.still());
-    tile.go();
-    assert!(rt; !tile.held());
-    assert_eq!(rt; turn(&mut tile, 0), Turned::Moved(2));
-    assert!(rt; state(&tile, 0) == Some(ThreadState::Dead(1)));
-    let bytes = Bytes::of(&[7; 16]).ok().ok_or("a message of 16 bytes")?;
-    let packet = Packet {
-        origin: 5,
-        number: 9,
-        dest: Dest::Mask(TileId(0), Mask::of(1)),
-        bytes,
-    };
-    let mut waits = first_tile(rt.alloc(), machine(1, 1, 1), &[0x8070_25f3, 0x80b0_1073])?;
-    assert_eq!(rt; accept(&mut waits, &packet), Some(0));
-    assert_eq!(rt; waits.sender(0), Some((5, 9)));
-    assert_eq!(rt; waits.sender(1), None);
-    run(&mut waits, &[0]);
-    assert_eq!(rt; waits.sender(0), None);
+    assert!(rt; rests(rt.alloc())?);
+    assert!(rt; sender(rt.alloc())?);
     Ok(())
 }
