@@ -1,4 +1,4 @@
-use Rattle.std.proofs.Common.{◌≡◌, ◌^◌, true, rules, arith, is_some, pos, neg_ℤ}
+use Rattle.std.proofs.Common.{◌≡◌, ◌^◌, true, rules, is_some, pos, neg_ℤ}
 use Rattle.std.specs.Prelude.{int_lt}
 use Rattle.std.proofs.lemmas.Int.{ints}
 use Rattle.tn_tile.specs.Rows.{accepted, can_count}
