@@ -1,6 +1,8 @@
 -- A tile at its start.
-use Rattle.std.proofs.Common.{ℕ, ◌≡◌, ◌+◌, ◌-◌, List, [], length, get_or, refl, sym, ap, ◌∙◌, arith, length-append, replicate, IsTrue, None}
-use Rattle.std.proofs.lemmas.List.{length-replicate}
+use Rattle.std.proofs.Common.{ℕ, ◌≡◌, ◌+◌, ◌-◌, List, [], length, get_or, refl, sym, ap, ◌∙◌, arith, length-append, replicate, IsTrue, None, ◌∷◌, ◌++◌, inl, inr, ◌<◌}
+use Rattle.std.proofs.Math.ListN.{get_or-append}
+use Rattle.std.proofs.lemmas.Bool.{cases_lt}
+use Rattle.std.proofs.lemmas.List.{get_or_push, length-replicate}
 use Rattle.tn_base.specs.declared.port.Port.{Port}
 use Rattle.tn_base.specs.declared.port.Port.TheVariants as port
 use Rattle.tn_base.specs.declared.shape.ShapeNumbers.{ShapeNumbers}
@@ -56,3 +58,12 @@ pub none_ended : (n : ShapeNumbers) (tile : ℕ) (threads : List Thread) → Are
 none_ended n tile threads starts =
     let count : length threads ≡ tile_threads n = starts.count in
     sym (none_dead threads (λ k h. ap (λ (x : Thread). is_dead x.state) (starts.each k (rw (← count) h)).start))
+
+-- one thread more at its start
+pub starts_more : (n : ShapeNumbers) (tile k : ℕ) (ts : List Thread) (t : Thread) → length ts ≡ k → ((j : ℕ) → j < k → StartsAt n (in_tile n tile j) (get_or ts j no_thread)) → StartsAt n (in_tile n tile k) t
+    → (j : ℕ) → j < k + 1 → StartsAt n (in_tile n tile j) (get_or (ts ++ t ∷ []) j no_thread)
+starts_more n tile k ts t long each new j h =
+    elim (cases_lt j k) [
+      | inl below ↦ let within : j < length ts = omega arith in rw (get_or-append ts (t ∷ []) no_thread j within) (each j below)
+      | inr last ↦ let same : j ≡ k = omega arith in rw (same, get_or_push ts t no_thread k long) new
+    ]

@@ -143,7 +143,7 @@ rows n m h =
             | inr d ↦ let e : core ≡ 3 = omega arith in rw e (by 3 last.1)
           ]
         ]
-      ]
+      ];
     }
 
 -- the bit of a thread of a core

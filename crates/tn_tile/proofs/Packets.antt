@@ -208,6 +208,10 @@ accepts p v h =
     let second = some_taken (has_packet v.shape p) (passed p v) (some_mapped arrived (accepted p v) first.1) in
     record { counts = tests.0; low = tests.1; fits = second.0; some = second.1 }
 
+-- a tile that takes the packet takes it, where it can count
+pub accept_can : (p : Packet) (v : TileView) → can_count v ≡ true → int_lt (neg_ℤ (pos (2 ^ 63))) v.counter ≡ true → is_some (accepted p v) ≡ true → is_some (accept_row p v) ≡ true
+accept_can p v counts low takes = rw (counts, low) (mapped_some arrived (accepted p v) ∙ takes)
+
 -- a call that was its row's test, where the row gives something
 pub did_it : {V : Type 0} (b : Bool) (row : Option V) (old new : V) → is_some row ≡ true → Does b row old new → row ≡ Some new
 did_it b None old new some d = cc some
