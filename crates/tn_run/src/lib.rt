@@ -14,3 +14,5 @@ pub mod status;
 mod tests;
 pub mod top;
 pub mod words;
+#[cfg(test)]
+mod world_tests;
