@@ -1,6 +1,8 @@
+pub mod Accepted
 pub mod Faults
 pub mod First
 pub mod Images
+pub mod Least
 pub mod Memory
 pub mod Named
 pub mod Ranges

@@ -110,7 +110,7 @@ fits_by n f false past e none = absurd cc
 fits_by n f true true e none = absurd cc
 fits_by n f true false e none = grind (arith, nat_tests)
 
-fill_within : (n : ShapeNumbers) (f : FillLine) → fill_fault n f ≡ None → IsWithin n.mem f
+pub fill_within : (n : ShapeNumbers) (f : FillLine) → fill_fault n f ≡ None → IsWithin n.mem f
 fill_within n f e = record { end = fits_by n f (has_thread n f.thread) (nat_lt n.mem (f.address + length f.bytes)) refl e }
 
 fills_by : (n : ShapeNumbers) (fills : List FillLine) → AllByRecursion (λ f. fill_fault n f ≡ None) fills → AllByRecursion (IsWithin n.mem) fills

@@ -1,12 +1,23 @@
 -- What the definitions of faults and of memory mean.
-use Rattle.std.specs.Prelude.{ℕ, ◌≡◌, ◌⊎◌, ◌≤◌, ◌+◌, ◌-◌, ◌++◌, ◌&&◌, List, [], ◌∷◌, length, nat_le, nat_lt, Option, Some, None, slice_index, if◌then◌else◌}
+use Rattle.std.specs.Prelude.{ℕ, ◌≡◌, ◌⊎◌, ◌≤◌, ◌<◌, ◌+◌, ◌-◌, ◌++◌, ◌&&◌, List, [], ◌∷◌, length, map, nat_le, nat_lt, Option, Some, None, option_map, replicate, slice_index, if◌then◌else◌, IsTrue, false, pos}
 use Rattle.std.specs.List.{AllByRecursion, filter_map}
 use Rattle.std.specs.Option.{option_or, unwrap_or}
+use Rattle.tn_base.specs.Address.{has_thread, tile_threads}
+use Rattle.tn_base.specs.Message.{slot_bytes}
+use Rattle.tn_base.specs.Parts.{tile_at, tile_count}
+use Rattle.tn_base.specs.Shape.{is_shape}
+use Rattle.tn_rows.specs.Events.{IsWorld}
+use Rattle.tn_rows.specs.PartView.{PartView, TileV, AbsentV}
+use Rattle.tn_rows.specs.WorldView.{WorldView}
+use Rattle.tn_slots.specs.Pool.{fresh}
+use Rattle.tn_tile.specs.TileView.{TileView}
 use Rattle.job_text.specs.declared.job.FillLine.{FillLine}
 use Rattle.job_text.specs.declared.job.Job.{Job}
 use Rattle.job_load.specs.declared.fault.LoadFault.{LoadFault}
-use Rattle.job_load.specs.Faults.{code_fault, fill_fault}
-use Rattle.job_load.specs.Images.{fills_of, memory_of}
+use Rattle.job_load.specs.Code.{code_of}
+use Rattle.job_load.specs.Faults.{code_fault, fill_fault, tiles_line}
+use Rattle.job_load.specs.Images.{IsWithin, fills_of, memory_of}
+use Rattle.job_load.specs.Start.{start_of}
 
 -- Faults.
 
@@ -38,3 +49,54 @@ last_given (f ∷ fs) a = option_or (last_given fs a) (given_by f a)
 pub record IsMemory (size : ℕ) (fills : List FillLine) (thread : ℕ) : Type 0 where
   pub size_is : length (memory_of size fills thread) ≡ size
   pub byte : (a : ℕ) → slice_index (memory_of size fills thread) a ≡ unwrap_or (last_given (fills_of thread fills) a) 0
+
+-- What is not there yet.
+
+-- the line of an option
+abbrev pub line_of : Option ℕ → List ℕ
+line_of None = []
+line_of (Some line) = line ∷ []
+
+-- all lines that give what is not there yet
+abbrev pub unbuilt_lines : Job → List ℕ
+unbuilt_lines job =
+    line_of (tiles_line job.numbers job.number_lines)
+    ++ (map (λ section. section.line) job.asms
+    ++ (map (λ table. table.line) job.tables
+    ++ (map (λ item. item.line) job.script
+    ++ line_of (option_map (λ graph. graph.line) job.graph))))
+
+abbrev pub IsIn : ℕ → List ℕ → Type 0
+IsIn line [] = ⊥
+IsIn line (l ∷ ls) = (line ≡ l) ⊎ IsIn line ls
+
+-- the least of these lines, or there are none
+abbrev pub IsLeast : Option ℕ → List ℕ → Type 0
+IsLeast None lines = lines ≡ []
+IsLeast (Some line) lines = IsIn line lines × AllByRecursion (λ l. line ≤ l) lines
+
+-- The start.
+
+-- nothing has happened on a part
+pub record IsFresh (v : TileView) : Type 0 where
+  pub pending : v.pending ≡ replicate (tile_threads v.shape) None
+  pub pool : v.pool ≡ fresh v.shape.slots (tile_threads v.shape) (slot_bytes v.shape)
+  pub transit : v.transit ≡ record { east = None; west = None; south = None; north = None; up = None }
+  pub dropped : v.dropped ≡ 0
+  pub counter : v.counter ≡ pos 0
+  pub white : v.black ≡ false
+  pub free : v.held ≡ false
+  pub going : v.ended ≡ None
+
+abbrev pub IsFreshPart : PartView → Type 0
+IsFreshPart (TileV v) = IsFresh v
+IsFreshPart AbsentV = Unit {0}
+
+-- the machine of an accepted job at its start
+pub record IsStart (job : Job) (w : WorldView) : Type 0 where
+  pub start : w ≡ start_of job
+  pub world : IsWorld w
+  pub numbers : IsTrue (is_shape job.numbers)
+  pub code : (i : ℕ) → i < tile_count job.numbers → 0 < length (code_of job.codes (tile_at job.numbers i))
+  pub fills : AllByRecursion (λ f. IsTrue (has_thread job.numbers f.thread) × IsWithin job.numbers.mem f) job.fills
+  pub fresh : AllByRecursion IsFreshPart w.parts

@@ -1,16 +1,28 @@
 //! Laws of the definitions by which jobs are loaded. A law answers nothing: its contract is what it says.
 
-ghost use Rattle.std.specs.Prelude.{ℕ, List};
+ghost use Rattle.std.specs.Prelude.{◌≡◌, ℕ, List};
 ghost use Rattle.std.specs.List.{AllByRecursion};
+ghost use Rattle.tn_rows.specs.WorldView.{WorldView};
 ghost use Rattle.job_text.specs.declared.job.FillLine.{FillLine};
 ghost use Rattle.job_text.specs.declared.job.Job.{Job};
-ghost use Rattle.job_load.specs.Faults.{section_fault};
+ghost use Rattle.job_load.specs.Faults.{section_fault, unbuilt_line};
 ghost use Rattle.job_load.specs.Images.{IsWithin};
-ghost use Rattle.job_load.specs.Laws.{IsFirst, IsMemory, section_faults};
+ghost use Rattle.job_load.specs.Laws.{IsFirst, IsLeast, IsMemory, IsStart, section_faults, unbuilt_lines};
+ghost use Rattle.job_load.specs.Loaded.{loaded};
 
 /// Of all faults of sections the one that refuses a job stands on the first line.
 pub fn law_sections()
     ensures { (job : Job) → IsFirst (section_fault job) (section_faults job) }
+{}
+
+/// Of all lines that give what the machine does not have yet the first one refuses the job.
+pub fn law_unbuilt()
+    ensures { (job : Job) → IsLeast (unbuilt_line job) (unbuilt_lines job) }
+{}
+
+/// A job that is accepted gives a machine in which nothing has happened.
+pub fn law_start()
+    ensures { (job : Job) (world : WorldView) → loaded job ≡ Ok world → IsStart job world }
 {}
 
 /// Where two fills give a byte of a thread's memory the later one wins, and what none gives is 0.

@@ -1,0 +1,103 @@
+-- The start of a job that is accepted.
+use Rattle.std.proofs.Common.{ℕ, ◌≡◌, ◌≤◌, ◌<◌, ◌+◌, ◌||◌, ◌∷◌, [], Bool, true, false, not, IsTrue, List, Option, Some, None, length, map, nat_lt, option_map, inl, inr, zero, suc, refl, subst, arith, if◌then◌else◌}
+use Rattle.std.specs.List.{AllByRecursion, list_any, range_with_len}
+use Rattle.std.specs.declared.result.Result.{Result}
+use Rattle.std.specs.declared.result.Result.TheVariants.{Ok}
+use Rattle.std.proofs.lemmas.Bool.{cases_eq}
+use Rattle.std.proofs.lemmas.Bool.Decides.{nat_tests}
+use Rattle.tn_base.specs.declared.part.Kind.{Kind}
+use Rattle.tn_base.specs.declared.part.Kind.TheVariants as kind
+use Rattle.tn_base.specs.declared.shape.ShapeNumbers.{ShapeNumbers}
+use Rattle.tn_base.specs.Address.{has_thread}
+use Rattle.tn_base.specs.Parts.{parts, tile_at, tile_count}
+use Rattle.tn_base.specs.Shape.{first_fault, is_shape}
+use Rattle.tn_rows.specs.WorldView.{WorldView}
+use Rattle.job_text.specs.declared.job.FillLine.{FillLine}
+use Rattle.job_text.specs.declared.job.Job.{Job}
+use Rattle.job_load.specs.declared.fault.FaultName.TheVariants as fault
+use Rattle.job_load.specs.declared.fault.LoadFault.{LoadFault}
+use Rattle.job_load.specs.Code.{code_of, is_empty, lacks_code}
+use Rattle.job_load.specs.Faults.{code_fault, fault_at, fill_fault, missing_fault, number_fault, section_fault, shape_line, soonest, unbuilt_fault}
+use Rattle.job_load.specs.Images.{IsWithin}
+use Rattle.job_load.specs.Laws.{IsFreshPart, IsStart}
+use Rattle.job_load.specs.Loaded.{loaded, unless}
+use Rattle.job_load.specs.Start.{part_start, start_of}
+use Rattle.job_load.proofs.Faults.{none_soonest, sooner_neither}
+use Rattle.job_load.proofs.Starts.{fill_within, start_is_world}
+
+passes : (f : Option LoadFault) (others : Result WorldView LoadFault) (w : WorldView) → unless f others ≡ Ok w → (f ≡ None) × (others ≡ Ok w)
+passes None others w e = (refl, e)
+passes (Some f) others w e = absurd cc
+
+no_fault : {X Y : Type 0} (g : X → Y) (f : Option X) → option_map g f ≡ None → f ≡ None
+no_fault g None e = refl
+no_fault g (Some f) e = absurd cc
+
+in_limits : (job : Job) → number_fault job ≡ None → IsTrue (is_shape job.numbers)
+in_limits job e = let none = no_fault _ (first_fault job.numbers) e in rw none refl
+
+-- Code.
+
+neither : (a b : Bool) → (a || b) ≡ false → (a ≡ false) × (b ≡ false)
+neither true b e = absurd cc
+neither false b e = (refl, e)
+
+any_later : (test : ℕ → Bool) (first count i : ℕ) → list_any test (range_with_len first count) ≡ false → first ≤ i → i < first + count → test i ≡ false
+any_later test first zero i e lo hi = absurd (omega arith)
+any_later test first (suc count) i e lo hi =
+    let both = neither (test first) (list_any test (range_with_len (first + 1) count)) e in
+    elim (cases_eq first i) [
+      | inl same ↦ rw (← same) both.0
+      | inr other ↦ any_later test (first + 1) count i both.1 (omega arith) (omega arith)
+    ]
+
+no_code : (t : Bool) (f : LoadFault) → (if t then Some f else None) ≡ None → t ≡ false
+no_code true f e = absurd cc
+no_code false f e = refl
+
+-- Fills.
+
+there_by : (n : ShapeNumbers) (f : FillLine) (there past : Bool) →
+    (if not there then Some (fault_at f.line fault.BadThread) else if past then Some (fault_at f.line fault.BadFill) else None) ≡ None → IsTrue there
+there_by n f false past e = absurd cc
+there_by n f true past e = refl
+
+fills_there : (n : ShapeNumbers) (fills : List FillLine) → AllByRecursion (λ f. fill_fault n f ≡ None) fills → AllByRecursion (λ f. IsTrue (has_thread n f.thread) × IsWithin n.mem f) fills
+fills_there n [] all = tt
+fills_there n (f ∷ fs) all = ((there_by n f (has_thread n f.thread) (nat_lt n.mem (f.address + length f.bytes)) all.0, fill_within n f all.0), fills_there n fs all.1)
+
+-- Parts.
+
+fresh_part : (job : Job) (k : Kind) → IsFreshPart (part_start job k)
+fresh_part job (kind.Tile tile) = record { pending = refl; pool = refl; transit = refl; dropped = refl; counter = refl; white = refl; free = refl; going = refl }
+fresh_part job kind.Host = tt
+fresh_part job (kind.Router board) = tt
+fresh_part job (kind.Link from onto) = tt
+fresh_part job kind.Detector = tt
+
+fresh_parts : (job : Job) (kinds : List Kind) → AllByRecursion IsFreshPart (map (part_start job) kinds)
+fresh_parts job [] = tt
+fresh_parts job (k ∷ ks) = (fresh_part job k, fresh_parts job ks)
+
+start_by : (job : Job) → number_fault job ≡ None → section_fault job ≡ None → missing_fault job ≡ None → IsStart job (start_of job)
+start_by job numbers sections missing =
+    let both = sooner_neither (soonest (code_fault job.numbers) job.codes) (soonest (fill_fault job.numbers) job.fills) sections in
+    let coded = no_code (lacks_code job.numbers job.codes) (fault_at (shape_line job.number_lines) fault.NoCode) missing in
+    record {
+      start = refl;
+      world = start_is_world job;
+      numbers = in_limits job numbers;
+      code = λ i h. let e = any_later (λ k. is_empty (code_of job.codes (tile_at job.numbers k))) 0 (tile_count job.numbers) i coded (omega arith) (omega arith) in grind (arith, nat_tests);
+      fills = fills_there job.numbers job.fills (none_soonest (fill_fault job.numbers) job.fills both.1);
+      fresh = fresh_parts job (parts job.numbers);
+    }
+
+pub accepted : (job : Job) (w : WorldView) → loaded job ≡ Ok w → IsStart job w
+accepted job w e =
+    let one = passes (number_fault job) (unless (unbuilt_fault job) (unless (section_fault job) (unless (missing_fault job) (Ok (start_of job))))) w e in
+    let two = passes (unbuilt_fault job) (unless (section_fault job) (unless (missing_fault job) (Ok (start_of job)))) w one.1 in
+    let three = passes (section_fault job) (unless (missing_fault job) (Ok (start_of job))) w two.1 in
+    let four = passes (missing_fault job) (Ok (start_of job)) w three.1 in
+    let same : start_of job ≡ w = cc in
+    let P : WorldView → Type 0 = λ v. IsStart job v in
+    subst P same (start_by job one.0 three.0 four.0)
