@@ -17,7 +17,7 @@ use tn_world::world::World;
 /// The machine of a job at its start, or the first fault: a number outside its limits; what the machine does not have
 /// yet, the first in order of lines; a section that names what the machine does not have, the first in order of lines; a
 /// tile without code. At the start no thread has made a step, no message stands anywhere, none was dropped, and no part
-/// tells an end.
+/// tells an end (`laws::law_start`).
 pub fn load(alloc: Global, job: &Job) -> Result<World, LoadStop>
     ensures { Gives result (loaded job.now) }
 {
