@@ -6,8 +6,12 @@
 #![tactic(auto)]
 
 pub mod answer;
+#[cfg(test)]
+mod fault_tests;
 pub mod history;
 pub mod kept;
+#[cfg(test)]
+mod program_tests;
 pub mod report;
 pub mod status;
 #[cfg(test)]

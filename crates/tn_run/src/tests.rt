@@ -15,7 +15,7 @@ use tn_io::gate::OpenGate;
 use tn_io::memory::{MemSink, MemSource};
 
 /// Two threads that end with their addresses.
-const TWO: &[u8] = b"tinsel 1\nshape 1 1 1 1 1 2\ncode all\nf1402573\n80b51073\nend\n";
+pub(crate) const TWO: &[u8] = b"tinsel 1\nshape 1 1 1 1 1 2\ncode all\nf1402573\n80b51073\nend\n";
 
 /// The words of a call.
 fn words_of(alloc: Global, texts: &[&str]) -> Result<Vec<String>, Fail> {
@@ -27,7 +27,7 @@ fn words_of(alloc: Global, texts: &[&str]) -> Result<Vec<String>, Fail> {
 }
 
 /// `run` on an input ends with this status and writes this text.
-fn row<H: Threads + Wait + Sync + Abort>(
+pub(crate) fn row<H: Threads + Wait + Sync + Abort>(
     rt: &H,
     alloc: Global,
     input: &[u8],
@@ -36,7 +36,7 @@ fn row<H: Threads + Wait + Sync + Abort>(
 ) -> Result<Kept, Fail> {
     let mut source = CleanSource::of(Vec::from_slice(alloc, input)?);
     let mut sink = CleanSink::of(alloc);
-    sink.reserve(1000)?;
+    sink.reserve(2000)?;
     let mut kept = Kept::new(alloc);
     let words = words_of(alloc, &["run"])?;
     let got = run_top(
@@ -229,59 +229,6 @@ fn a_full_tile(rt: HostRuntime) -> Result<(), Fail> {
         Status::Done,
         text.as_slice(),
     )?;
-    Ok(())
-}
-
-#[test]
-fn refusals(rt: HostRuntime) -> Result<(), Fail> {
-    let alloc: Global = rt.alloc();
-    let texts: [(&[u8], &[u8]); 13] = [
-        (b"", b"refused 1 Header\n"),
-        (b"tinsel 3\nshape 1 1 1 1 1 1\n", b"refused 1 Header\n"),
-        (b"tinsel 1\n\n# no shape\n", b"refused 2 NoShape\n"),
-        (
-            b"tinsel 1\nshape 1 1 1 1 1 17\ncode all\n80b01073\nend\n",
-            b"refused 2 Threads\n",
-        ),
-        (
-            b"tinsel 1\nshape 4 4 4 4 4 16\nmem 65536\ncode all\n80b51073\nend\n",
-            b"refused 2 Total\n",
-        ),
-        (
-            b"tinsel 1\nshape 1 1 1 1 1 1\nslots 3\ncode all\n80b01073\nend\n",
-            b"refused 3 Slots\n",
-        ),
-        (
-            b"tinsel 1\nshape 1 1 1 1 1 2\ncode all\nf1402573\n",
-            b"refused 4 NoEnd\n",
-        ),
-        (
-            b"tinsel 1\nshape 1 1 1 1 1 2\ncode all\nf1402573\n80b51073\nf14\n",
-            b"refused 6 BadWord\n",
-        ),
-        (b"tinsel 1\nshape 1 1 1 1 1 2\n", b"refused 2 NoCode\n"),
-        (
-            b"tinsel 1\nshape 1 1 2 1 1 1\ncode all\n80b01073\nend\n",
-            b"refused 2 UnsupportedYet\n",
-        ),
-        (
-            b"tinsel 1\nshape 1 1 1 1 1 1\ncode all\n80b01073\nend\nhost idle\n",
-            b"refused 6 UnsupportedYet\n",
-        ),
-        (
-            b"tinsel 1\nshape 1 1 1 1 1 1\ncode all\n80b01073\nend\nfill 0 4095 0000\n",
-            b"refused 6 BadFill\n",
-        ),
-        (
-            b"tinsel 1\nshape 1 1 1 1 1 1\ncode all\n80b01073\nend\nfill 1 0 00\n",
-            b"refused 6 BadThread\n",
-        ),
-    ];
-    for (input, text) in texts {
-        let kept = row(&rt, alloc, input, Status::Refused, text)?;
-        assert!(rt; kept.start().is_none());
-        assert!(rt; kept.history().events().is_empty());
-    }
     Ok(())
 }
 
