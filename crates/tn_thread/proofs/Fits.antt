@@ -28,7 +28,7 @@ written_long bytes at width value =
     cond_both (nat_eq width 1) _ _ (λ xs. length xs ≡ length bytes) (λ e. simp length-set)
     (λ e. cond_both (nat_eq width 2) _ _ (λ xs. length xs ≡ length bytes) (λ f. simp length-set) (λ f. simp length-set))
 
-trapped_fits : (seen : Sight) (t : Thread) (why : Trap) → StepFits seen t (trapped why t)
+pub trapped_fits : (seen : Sight) (t : Thread) (why : Trap) → StepFits seen t (trapped why t)
 trapped_fits seen t why = record { keeps = record { id = refl; shape = refl; firmware = refl; mem = refl; out = refl }; steps = refl; op = refl }
 
 got_fits : (seen : Sight) (t : Thread) (rd value : ℕ) → StepFits seen t (got rd value op.None t)

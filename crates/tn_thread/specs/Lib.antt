@@ -1,3 +1,4 @@
+pub mod Command
 pub mod Fits
 pub mod Memory
 pub mod Registers

@@ -160,7 +160,7 @@ impl Thread {
     }
 
     /// Traps.
-    fn trap(&mut self, trap: Trap) -> Op
+    pub(crate) fn trap(&mut self, trap: Trap) -> Op
         requires { self.old.steps + 1 < 2 ^ 32 }
         ensures { record { thread = self.new; op = result } ≡ trapped trap self.old }
     {
@@ -245,6 +245,7 @@ impl Thread {
     }
 
     /// A read of a control register.
+    #[inline(never)]
     fn read<V: View>(&mut self, rd: u8, csr: u16, view: &V) -> Op
         requires room { self.old.steps + 1 < 2 ^ 32 }
         requires rd { rd < 32 }
@@ -273,6 +274,7 @@ impl Thread {
     }
 
     /// A write of a control register.
+    #[inline(never)]
     fn write<V: View>(&mut self, rd: u8, csr: u16, value: u32, view: &V) -> Op
         requires room { self.old.steps + 1 < 2 ^ 32 }
         requires rd { rd < 32 }
