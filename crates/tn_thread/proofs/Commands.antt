@@ -1,20 +1,17 @@
 -- Each command keeps what a step must, and asks only for what it may.
-use Rattle.std.proofs.Common.{ℕ, ◌≡◌, ◌+◌, ◌*◌, Bool, true, IsTrue, List, length, refl, arith, Option, Some, None, is_some}
+use Rattle.std.proofs.Common.{ℕ, ◌≡◌, ◌+◌, ◌*◌, IsTrue, refl, arith, Option, Some, None, is_some}
 use Rattle.std.proofs.lemmas.Bool.{cond_both}
 use Rattle.std.proofs.lemmas.List.{length-take}
 use Rattle.tn_base.specs.Message.{has_dest}
-use Rattle.tn_base.specs.declared.event.Trap.{Trap}
 use Rattle.tn_base.specs.declared.event.Trap.TheVariants as trap
 use Rattle.tn_base.specs.declared.message.Dest.{Dest}
 use Rattle.tn_base.specs.declared.message.Dest.TheVariants as dest
-use Rattle.tn_base.specs.declared.op.Op.TheVariants as op
 use Rattle.tn_thread.specs.declared.command.Command.{Command}
 use Rattle.tn_thread.specs.declared.command.Command.TheVariants as command
 use Rattle.tn_thread.specs.declared.thread.Thread.{Thread}
 use Rattle.tn_thread.specs.Command.{commanded, given_up, handed, sent_by, sent_off}
 use Rattle.tn_thread.specs.Fits.{StepFits}
 use Rattle.tn_thread.specs.Sight.{Sight}
-use Rattle.tn_thread.specs.Step.{trapped}
 use Rattle.tn_thread.proofs.Fits.{trapped_fits}
 
 hand_fits : (first : Option ℕ) (seen : Sight) (t : Thread) → seen.first ≡ first → StepFits seen t (handed first t)

@@ -245,7 +245,6 @@ impl Thread {
     }
 
     /// A read of a control register.
-    #[inline(never)]
     fn read<V: View>(&mut self, rd: u8, csr: u16, view: &V) -> Op
         requires room { self.old.steps + 1 < 2 ^ 32 }
         requires rd { rd < 32 }
@@ -274,7 +273,6 @@ impl Thread {
     }
 
     /// A write of a control register.
-    #[inline(never)]
     fn write<V: View>(&mut self, rd: u8, csr: u16, value: u32, view: &V) -> Op
         requires room { self.old.steps + 1 < 2 ^ 32 }
         requires rd { rd < 32 }

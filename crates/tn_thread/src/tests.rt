@@ -2,8 +2,10 @@
 
 ghost use Rattle.std.specs.Prelude.{◌==◌, IsTrue, Some, None, if◌then◌else◌};
 ghost use Rattle.tn_base.specs.Effects.{is_width};
+ghost use Rattle.tn_thread.specs.Command.{FitsCommand};
 ghost use Rattle.tn_thread.specs.Step.{FitsStep};
 
+use crate::command::Command;
 use crate::state::{ThreadState, WaitSet};
 use crate::thread::{FIRMWARE, Thread};
 use crate::view::View;
@@ -16,6 +18,7 @@ use tn_base::event::Trap;
 use tn_base::ids::ThreadId;
 use tn_base::message::{Dest, HOST};
 use tn_base::op::Op;
+use tn_base::regs::Regs;
 use tn_base::shape::{Shape, ShapeNumbers};
 
 /// A tile on which the thread holds one slot.
@@ -269,5 +272,67 @@ fn code_outside_the_firmware(rt: HostRuntime) -> Result<(), Fail> {
     assert_eq!(rt; view.held_byte(3, 16), Some(0));
     assert_eq!(rt; view.held_byte(2, 0), None);
     assert_eq!(rt; WaitSet::CAN_RECV.bits(), 2);
+    Ok(())
+}
+
+/// Whether a command enters no handler, or one where instructions may stand.
+fn may_enter(c: &Command) -> bool
+    ensures { IsTrue result → FitsCommand c.now }
+{
+    match c {
+        Command::Enter { entry, .. } => *entry % 4 == 0,
+        _ => true,
+    }
+}
+
+/// One dispatch of the firmware, where the thread may make it.
+fn command(t: &mut Thread, c: Command, view: &Seen) -> Option<Op> {
+    let fuel = t.shape.numbers().fuel;
+    let running = matches!(t.state, ThreadState::Run);
+    if !t.firmware || !running || t.pc != 0xFFFF_FFF0 || t.steps >= fuel || !may_enter(&c) {
+        return None;
+    }
+    Some(t.command(c, view))
+}
+
+#[test]
+fn dispatches(rt: HostRuntime) -> Result<(), Fail> {
+    let shape = Shape::of(machine(1))?;
+    let mut view = quiet()?;
+    let mut t = start(rt.alloc(), &shape, &[], true)?.ok_or("an empty image")?;
+    assert_eq!(rt;
+        command(&mut t, Command::KeySend(None), &view),
+        Some(Op::None)
+    );
+    assert_eq!(rt; t.steps(), 1);
+    assert_eq!(rt; command(&mut t, Command::Free(3), &view), Some(Op::Free(3)));
+    assert_eq!(rt;
+        command(&mut t, Command::Idle(true), &view),
+        Some(Op::Idle(true))
+    );
+    assert_eq!(rt; command(&mut t, Command::Recv, &view), None);
+    if let ThreadState::Idle(_) = t.state {
+        t.answer(1);
+    }
+    // The completion of the firmware's idle writes no register and stays at its address.
+    assert_eq!(rt; resume(&mut t, &view), Some(Op::None));
+    assert_eq!(rt; t.pc(), FIRMWARE);
+    assert_eq!(rt; t.given(), 1);
+    view.can_send = true;
+    let sent = command(&mut t, Command::KeySend(Some(258)), &view);
+    let zeros = Bytes::of([0; 16].as_slice())?;
+    assert_eq!(rt; sent, Some(Op::Send(Dest::Key(258), zeros)));
+    assert_eq!(rt; t.sends(), 1);
+    view.can_send = false;
+    let mut busy = t.copy()?;
+    let trap = command(&mut busy, Command::HostSend, &view);
+    assert_eq!(rt; trap, Some(Op::Trap(Trap::SendBusy)));
+    let mut regs = Regs::zero();
+    regs.set(1, FIRMWARE);
+    let enter = Command::Enter { entry: 64, regs };
+    assert_eq!(rt; command(&mut t, enter, &view), Some(Op::None));
+    assert_eq!(rt; t.pc(), 64);
+    assert_eq!(rt; t.regs().get(1), FIRMWARE);
+    assert_eq!(rt; t.steps(), 6);
     Ok(())
 }

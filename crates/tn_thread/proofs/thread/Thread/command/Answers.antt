@@ -1,4 +1,3 @@
-use Rattle.std.proofs.Common.{◌≡◌}
 use Rattle.tn_thread.proofs.Commands.{command_fits}
 use Rattle.tn_thread.proofs.thread.Thread.command.Goals as goal
 
