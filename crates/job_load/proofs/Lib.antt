@@ -1,3 +1,4 @@
+pub mod Assembled
 pub mod Faults
 pub mod First
 pub mod Images

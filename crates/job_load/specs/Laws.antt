@@ -5,6 +5,7 @@ use Rattle.std.specs.Option.{option_or, unwrap_or}
 use Rattle.job_text.specs.declared.job.FillLine.{FillLine}
 use Rattle.job_text.specs.declared.job.Job.{Job}
 use Rattle.job_load.specs.declared.fault.LoadFault.{LoadFault}
+use Rattle.job_load.specs.Assembly.{sections_of}
 use Rattle.job_load.specs.Faults.{code_fault, fill_fault}
 use Rattle.job_load.specs.Images.{fills_of, memory_of}
 
@@ -12,7 +13,7 @@ use Rattle.job_load.specs.Images.{fills_of, memory_of}
 
 -- the faults of all sections
 abbrev pub section_faults : Job → List LoadFault
-section_faults job = filter_map (code_fault job.numbers) job.codes ++ filter_map (fill_fault job.numbers) job.fills
+section_faults job = filter_map (code_fault job.numbers) (sections_of job) ++ filter_map (fill_fault job.numbers) job.fills
 
 abbrev pub IsAmong : LoadFault → List LoadFault → Type 0
 IsAmong f [] = ⊥
