@@ -19,8 +19,11 @@ returns-in-Some-common_code c =
     let none : words_by (is_tile c.args.tile.0) c.args.codes.now ≡ None = sym c.own_code.ensures ∙ ap option_copied c.in_default.is in
     let none' : words_by (is_tile c.args.tile.0) c.args.asms.now ≡ None = sym c.own_code-2.ensures ∙ ap option_copied c.in_default-own_code.is in
     let common : words_by is_all c.args.codes.now ≡ Some c.in-Some-common_code.words.now = sym c.common_code.ensures ∙ ap option_copied c.in-Some-common_code.is in
-    rw (words_back (is_tile c.args.tile.0) c.args.codes.now c.args.asms.now none, none',
-    words_front is_all c.args.codes.now c.args.asms.now c.in-Some-common_code.words.now common) refl
+    rw (
+      words_back (is_tile c.args.tile.0) c.args.codes.now c.args.asms.now none,
+      none',
+      words_front is_all c.args.codes.now c.args.asms.now c.in-Some-common_code.words.now common,
+    ) refl
 
 pub returns-in-Some-common_code-2 : goal.returns-in-Some-common_code-2
 returns-in-Some-common_code-2 c =
