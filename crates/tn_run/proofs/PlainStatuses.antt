@@ -1,6 +1,5 @@
 -- The commands that read a text and write another.
-use Rattle.std.proofs.Common.{◌≡◌, ◌≢◌, ℕ, ◌≤◌, List, [], ◌∷◌, ◌++◌, length, None, Some, inl, inr, refl, sym, ap, subst, ◌∙◌, append_assoc, arith}
-use Rattle.std.specs.declared.option.Option.{Option}
+use Rattle.std.proofs.Common.{◌≡◌, ◌≢◌, ℕ, List, ◌++◌, length, Some, inl, inr, refl, ap, subst, append_assoc, arith}
 use Rattle.std.specs.declared.result.Result.{Result}
 use Rattle.std.specs.declared.result.Result.TheVariants.{Ok, Err}
 use Rattle.std.specs.Io.KnownBytes.{Consumes}
@@ -11,7 +10,7 @@ use Rattle.job_load.specs.declared.fault.LoadStop.TheVariants as stop
 use Rattle.tn_run.specs.declared.status.Status.{Status}
 use Rattle.tn_run.specs.declared.status.Status.TheVariants.{Done, Usage, Refused, Trapped, BadKey, Spent, Jammed, ReadFault, WriteFault, Memory, TooLong}
 use Rattle.tn_run.specs.declared.words.Command.{Command}
-use Rattle.tn_run.specs.Plain.{IsPlainCalm, IsPlainlyAnswered, IsStop, Makes, PlainAnswers, PlainCompletes, PlainFinishes, answer_by, before, made_by, onto, plain_answer, shown_line, shown_lines}
+use Rattle.tn_run.specs.Plain.{IsPlainCalm, IsStop, PlainAnswers, PlainCompletes, PlainFinishes, answer_by, before, made_by, onto, plain_answer}
 use Rattle.tn_run.specs.Top.{Ports, most_bytes}
 use Rattle.tn_run.specs.Words.{command_of}
 use Rattle.tn_run.proofs.Complete.{taken_fits, whole_is}

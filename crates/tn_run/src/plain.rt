@@ -65,12 +65,7 @@ fn push_shown(alloc: Global, text: &mut Vec<u8>, word: u32) -> Result<(), AllocE
 }
 
 /// Appends the canonical line of the word that a line says.
-fn push_line(
-    alloc: Global,
-    text: &mut Vec<u8>,
-    number: u32,
-    line: &[u8],
-) -> Result<(), LoadStop>
+fn push_line(alloc: Global, text: &mut Vec<u8>, number: u32, line: &[u8]) -> Result<(), LoadStop>
     ensures { Makes result text.new.items (onto text.old.items (shown_line number line.now)) }
 {
     let word = content(line);
