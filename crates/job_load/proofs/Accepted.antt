@@ -17,7 +17,8 @@ use Rattle.job_text.specs.declared.job.Job.{Job}
 use Rattle.job_load.specs.declared.fault.FaultName.TheVariants as fault
 use Rattle.job_load.specs.declared.fault.LoadFault.{LoadFault}
 use Rattle.job_load.specs.Code.{code_of, is_empty, lacks_code}
-use Rattle.job_load.specs.Faults.{code_fault, fault_at, fill_fault, missing_fault, number_fault, section_fault, shape_line, soonest, unbuilt_fault}
+use Rattle.job_load.specs.Assembly.{sections_of}
+use Rattle.job_load.specs.Faults.{asm_fault, code_fault, fault_at, fill_fault, missing_fault, number_fault, section_fault, shape_line, soonest, unbuilt_fault}
 use Rattle.job_load.specs.Images.{IsWithin}
 use Rattle.job_load.specs.Laws.{IsFreshPart, IsStart}
 use Rattle.job_load.specs.Loaded.{loaded, unless}
@@ -81,22 +82,23 @@ fresh_parts job (k ∷ ks) = (fresh_part job k, fresh_parts job ks)
 
 start_by : (job : Job) → number_fault job ≡ None → section_fault job ≡ None → missing_fault job ≡ None → IsStart job (start_of job)
 start_by job numbers sections missing =
-    let both = sooner_neither (soonest (code_fault job.numbers) job.codes) (soonest (fill_fault job.numbers) job.fills) sections in
-    let coded = no_code (lacks_code job.numbers job.codes) (fault_at (shape_line job.number_lines) fault.NoCode) missing in
+    let both = sooner_neither (soonest (code_fault job.numbers) (sections_of job)) (soonest (fill_fault job.numbers) job.fills) sections in
+    let coded = no_code (lacks_code job.numbers (sections_of job)) (fault_at (shape_line job.number_lines) fault.NoCode) missing in
     record {
       start = refl;
       world = start_is_world job;
       numbers = in_limits job numbers;
-      code = λ i h. let e = any_later (λ k. is_empty (code_of job.codes (tile_at job.numbers k))) 0 (tile_count job.numbers) i coded (omega arith) (omega arith) in grind (arith, nat_tests);
+      code = λ i h. let e = any_later (λ k. is_empty (code_of (sections_of job) (tile_at job.numbers k))) 0 (tile_count job.numbers) i coded (omega arith) (omega arith) in grind (arith, nat_tests);
       fills = fills_there job.numbers job.fills (none_soonest (fill_fault job.numbers) job.fills both.1);
       fresh = fresh_parts job (parts job.numbers);
     }
 
 pub accepted : (job : Job) (w : WorldView) → loaded job ≡ Ok w → IsStart job w
 accepted job w e =
-    let one = passes (number_fault job) (unless (unbuilt_fault job) (unless (section_fault job) (unless (missing_fault job) (Ok (start_of job))))) w e in
-    let two = passes (unbuilt_fault job) (unless (section_fault job) (unless (missing_fault job) (Ok (start_of job)))) w one.1 in
-    let three = passes (section_fault job) (unless (missing_fault job) (Ok (start_of job))) w two.1 in
+    let one = passes (number_fault job) (unless (unbuilt_fault job) (unless (asm_fault job) (unless (section_fault job) (unless (missing_fault job) (Ok (start_of job)))))) w e in
+    let two = passes (unbuilt_fault job) (unless (asm_fault job) (unless (section_fault job) (unless (missing_fault job) (Ok (start_of job))))) w one.1 in
+    let assembled = passes (asm_fault job) (unless (section_fault job) (unless (missing_fault job) (Ok (start_of job)))) w two.1 in
+    let three = passes (section_fault job) (unless (missing_fault job) (Ok (start_of job))) w assembled.1 in
     let four = passes (missing_fault job) (Ok (start_of job)) w three.1 in
     let same : start_of job ≡ w = cc in
     let P : WorldView → Type 0 = λ v. IsStart job v in

@@ -1,5 +1,5 @@
 -- The first fault, and the first section of an owner.
-use Rattle.std.proofs.Common.{ℕ, ◌≡◌, ◌≤◌, ◌<◌, ◌+◌, ◌∷◌, [], Bool, true, false, List, length, drop, get_or, nat_lt, if◌then◌else◌, refl, arith, None, Some, Option}
+use Rattle.std.proofs.Common.{ℕ, ◌≡◌, ◌≤◌, ◌<◌, ◌+◌, ◌++◌, ◌∷◌, [], Bool, true, false, List, length, drop, get_or, nat_lt, if◌then◌else◌, refl, arith, None, Some, Option}
 use Rattle.std.specs.List.{AllByRecursion}
 use Rattle.std.proofs.lemmas.Bool.Decides.{nat_tests}
 use Rattle.std.proofs.lemmas.List.{drop_all}
@@ -52,6 +52,10 @@ pub soonest_done : {X : Type 0} (test : X → Option LoadFault) (xs : List X) (i
     sooner first (soonest test (drop i xs)) ≡ first
 soonest_done test xs i first h = rw (drop_all i xs h) (sooner_none first)
 
+pub soonest_append : {X : Type 0} (test : X → Option LoadFault) (xs ys : List X) → soonest test (xs ++ ys) ≡ sooner (soonest test xs) (soonest test ys)
+soonest_append test [] ys = refl
+soonest_append test (x ∷ xs) ys = rw (soonest_append test xs ys, sooner_assoc (test x) (soonest test xs) (soonest test ys)) refl
+
 -- where no item is at fault, the test says so of each
 pub sooner_neither : (a b : Option LoadFault) → sooner a b ≡ None → (a ≡ None) × (b ≡ None)
 sooner_neither None b e = (refl, e)
@@ -74,3 +78,23 @@ words_behind test ss i s h is e = rw (rest_first ss i s h is, e) refl
 
 pub words_done : (test : Owner → Bool) (ss : List CodeSection) (i : ℕ) → length ss ≤ i → words_by test (drop i ss) ≡ None
 words_done test ss i h = rw (drop_all i ss h) refl
+
+words_more : (test : Owner → Bool) (s : CodeSection) (xs ys : List CodeSection) (w : Option (List ℕ)) (b : Bool) → b ≡ test s.owner →
+    words_by test (s ∷ xs) ≡ w → (words_by test xs ≡ w → words_by test (xs ++ ys) ≡ w) → words_by test (s ∷ xs ++ ys) ≡ w
+words_more test s xs ys w true e h more = let k : Some s.words ≡ w = rw (← e) at h in rw (← e) k
+words_more test s xs ys w false e h more = let k : words_by test xs ≡ w = rw (← e) at h in rw (← e) (more k)
+
+-- the words of the sections in front, where these have some
+pub words_front : (test : Owner → Bool) (xs ys : List CodeSection) (words : List ℕ) → words_by test xs ≡ Some words → words_by test (xs ++ ys) ≡ Some words
+words_front test [] ys words h = cc
+words_front test (s ∷ xs) ys words h = words_more test s xs ys (Some words) (test s.owner) refl h (words_front test xs ys words)
+
+skipped : (test : Owner → Bool) (s : CodeSection) (xs ys : List CodeSection) (b : Bool) → b ≡ test s.owner →
+    words_by test (s ∷ xs) ≡ None → (words_by test xs ≡ None → words_by test (xs ++ ys) ≡ words_by test ys) → words_by test (s ∷ xs ++ ys) ≡ words_by test ys
+skipped test s xs ys true e h more = let k : Some s.words ≡ None = rw (← e) at h in cc
+skipped test s xs ys false e h more = let k : words_by test xs ≡ None = rw (← e) at h in rw (← e) (more k)
+
+-- else those of the sections behind
+pub words_back : (test : Owner → Bool) (xs ys : List CodeSection) → words_by test xs ≡ None → words_by test (xs ++ ys) ≡ words_by test ys
+words_back test [] ys h = refl
+words_back test (s ∷ xs) ys h = skipped test s xs ys (test s.owner) refl h (words_back test xs ys)

@@ -6,6 +6,7 @@ use Rattle.std.proofs.lemmas.Bool.Decides.{nat_tests}
 use Rattle.std.proofs.lemmas.List.{append-nil}
 use Rattle.job_text.specs.declared.job.Job.{Job}
 use Rattle.job_load.specs.declared.fault.LoadFault.{LoadFault}
+use Rattle.job_load.specs.Assembly.{sections_of}
 use Rattle.job_load.specs.Faults.{code_fault, fill_fault, section_fault, sooner, soonest}
 use Rattle.job_load.specs.Laws.{IsAmong, IsFirst, section_faults}
 
@@ -52,6 +53,6 @@ first_of test (x ∷ xs) = first_one (test x) (soonest test xs) (filter_map test
 
 pub first_section : (job : Job) → IsFirst (section_fault job) (section_faults job)
 first_section job =
-    first_join (soonest (code_fault job.numbers) job.codes) (soonest (fill_fault job.numbers) job.fills)
-    (filter_map (code_fault job.numbers) job.codes) (filter_map (fill_fault job.numbers) job.fills)
-    (first_of (code_fault job.numbers) job.codes) (first_of (fill_fault job.numbers) job.fills)
+    first_join (soonest (code_fault job.numbers) (sections_of job)) (soonest (fill_fault job.numbers) job.fills)
+    (filter_map (code_fault job.numbers) (sections_of job)) (filter_map (fill_fault job.numbers) job.fills)
+    (first_of (code_fault job.numbers) (sections_of job)) (first_of (fill_fault job.numbers) job.fills)

@@ -63,7 +63,6 @@ least_one (Some line) = (inl refl, (omega arith, tt))
 pub least_unbuilt : (job : Job) → IsLeast (unbuilt_line job) (unbuilt_lines job)
 least_unbuilt job =
     least_join (tiles_line job.numbers job.number_lines) _ (line_of (tiles_line job.numbers job.number_lines)) _ (least_one (tiles_line job.numbers job.number_lines))
-    (least_join (first_line (λ section. section.line) job.asms) _ (map (λ section. section.line) job.asms) _ (least_of (λ section. section.line) job.asms)
     (least_join (first_line (λ table. table.line) job.tables) _ (map (λ table. table.line) job.tables) _ (least_of (λ table. table.line) job.tables)
     (least_join (first_line (λ item. item.line) job.script) _ (map (λ item. item.line) job.script) _ (least_of (λ item. item.line) job.script)
-    (least_one (option_map (λ graph. graph.line) job.graph)))))
+    (least_one (option_map (λ graph. graph.line) job.graph))))

@@ -1,4 +1,5 @@
 pub mod Accepted
+pub mod Assembled
 pub mod Faults
 pub mod First
 pub mod Images

@@ -22,6 +22,7 @@ use Rattle.tn_tile.specs.TileView.{TileView}
 use Rattle.job_text.specs.declared.job.FillLine.{FillLine}
 use Rattle.job_text.specs.declared.job.Job.{Job}
 use Rattle.job_load.specs.declared.fault.FaultName.TheVariants as fault
+use Rattle.job_load.specs.Assembly.{sections_of}
 use Rattle.job_load.specs.Code.{code_of}
 use Rattle.job_load.specs.Faults.{code_fault, fault_at, fill_fault, section_fault, soonest}
 use Rattle.job_load.specs.Images.{AreImages, IsWithin, filled, image_at, memory_of}
@@ -68,12 +69,12 @@ thread_made n images id a image thread e f g =
 
 -- a tile that was made is the one of the job
 pub tile_made : (n : ShapeNumbers) (job : Job) (images : List (List ℕ)) (tile : ℕ) (words : List ℕ) (threads : List Thread) →
-    n ≡ job.numbers → AreImages n.mem job.fills images → words ≡ code_of job.codes tile → threads ≡ by_address (thread_over n images) n tile →
+    n ≡ job.numbers → AreImages n.mem job.fills images → words ≡ code_of (sections_of job) tile → threads ≡ by_address (thread_over n images) n tile →
     fresh_tile n tile words threads ≡ tile_start job tile
 tile_made n job images tile words threads e are f g =
     let same : threads ≡ by_address (thread_start job) job.numbers tile =
     g ∙ threads_same n job images tile e are ∙ ap (λ m. by_address (thread_start job) m tile) e in
-    ap (λ m. fresh_tile m tile words threads) e ∙ ap (λ w. fresh_tile job.numbers tile w threads) f ∙ ap (λ all. fresh_tile job.numbers tile (code_of job.codes tile) all) same
+    ap (λ m. fresh_tile m tile words threads) e ∙ ap (λ w. fresh_tile job.numbers tile w threads) f ∙ ap (λ all. fresh_tile job.numbers tile (code_of (sections_of job) tile) all) same
 
 pub if_made : {E : Type 0} (result : Result TileView E) (made tile : TileView) → made ≡ tile → IfOk result (λ t. t ≡ made) → IfOk result (λ t. t ≡ tile)
 if_made result made tile e h = let P : TileView → Type 0 = λ v. IfOk result (λ t. t ≡ v) in subst P e h
@@ -119,5 +120,5 @@ fills_by n (f ∷ fs) all = (fill_within n f all.0, fills_by n fs all.1)
 
 pub fills_within : (job : Job) → section_fault job ≡ None → AllByRecursion (IsWithin job.numbers.mem) job.fills
 fills_within job e =
-    let both = sooner_neither (soonest (code_fault job.numbers) job.codes) (soonest (fill_fault job.numbers) job.fills) e in
+    let both = sooner_neither (soonest (code_fault job.numbers) (sections_of job)) (soonest (fill_fault job.numbers) job.fills) e in
     fills_by job.numbers job.fills (none_soonest (fill_fault job.numbers) job.fills both.1)

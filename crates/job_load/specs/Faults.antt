@@ -15,6 +15,7 @@ use Rattle.job_text.specs.declared.job.Owner.TheVariants as owner
 use Rattle.job_load.specs.declared.fault.FaultName.{FaultName}
 use Rattle.job_load.specs.declared.fault.FaultName.TheVariants as fault
 use Rattle.job_load.specs.declared.fault.LoadFault.{LoadFault}
+use Rattle.job_load.specs.Assembly.{asms_fault, sections_of}
 use Rattle.job_load.specs.Code.{lacks_code}
 use Rattle.job_load.specs.Names.{name_of_number}
 
@@ -61,19 +62,24 @@ first_line line items = reduce min (map line items)
 abbrev pub tiles_line : ShapeNumbers → ShapeNumbers → Option ℕ
 tiles_line numbers lines = if nat_lt 1 (tile_count numbers) then Some (shape_line lines) else None
 
--- the first line that gives what is not there yet: more than one tile, assembly, a table, a script, or a graph
+-- the first line that gives what is not there yet: more than one tile, a table, a script, or a graph
 abbrev pub unbuilt_line : Job → Option ℕ
 unbuilt_line job =
     earlier (tiles_line job.numbers job.number_lines)
-    (earlier (first_line (λ section. section.line) job.asms)
     (earlier (first_line (λ table. table.line) job.tables)
     (earlier (first_line (λ item. item.line) job.script)
-    (option_map (λ graph. graph.line) job.graph))))
+    (option_map (λ graph. graph.line) job.graph)))
 
 abbrev pub unbuilt_fault : Job → Option LoadFault
 unbuilt_fault job = option_map (λ line. fault_at line fault.UnsupportedYet) (unbuilt_line job)
 
--- 3. Sections that name what the machine does not have.
+-- 3. A section that is no assembly.
+
+-- the first one in order of the sections, at its first line at fault
+abbrev pub asm_fault : Job → Option LoadFault
+asm_fault job = asms_fault job.asms
+
+-- 4. Sections that name what the machine does not have.
 
 -- the one of two faults that stands on the earlier line
 abbrev pub sooner : Option LoadFault → Option LoadFault → Option LoadFault
@@ -102,9 +108,9 @@ fill_fault n fill =
     else None
 
 abbrev pub section_fault : Job → Option LoadFault
-section_fault job = sooner (soonest (code_fault job.numbers) job.codes) (soonest (fill_fault job.numbers) job.fills)
+section_fault job = sooner (soonest (code_fault job.numbers) (sections_of job)) (soonest (fill_fault job.numbers) job.fills)
 
--- 4. A tile without code.
+-- 5. A tile without code.
 
 abbrev pub missing_fault : Job → Option LoadFault
-missing_fault job = if lacks_code job.numbers job.codes then Some (fault_at (shape_line job.number_lines) fault.NoCode) else None
+missing_fault job = if lacks_code job.numbers (sections_of job) then Some (fault_at (shape_line job.number_lines) fault.NoCode) else None

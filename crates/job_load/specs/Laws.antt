@@ -14,6 +14,7 @@ use Rattle.tn_tile.specs.TileView.{TileView}
 use Rattle.job_text.specs.declared.job.FillLine.{FillLine}
 use Rattle.job_text.specs.declared.job.Job.{Job}
 use Rattle.job_load.specs.declared.fault.LoadFault.{LoadFault}
+use Rattle.job_load.specs.Assembly.{sections_of}
 use Rattle.job_load.specs.Code.{code_of}
 use Rattle.job_load.specs.Faults.{code_fault, fill_fault, tiles_line}
 use Rattle.job_load.specs.Images.{IsWithin, fills_of, memory_of}
@@ -23,7 +24,7 @@ use Rattle.job_load.specs.Start.{start_of}
 
 -- the faults of all sections
 abbrev pub section_faults : Job → List LoadFault
-section_faults job = filter_map (code_fault job.numbers) job.codes ++ filter_map (fill_fault job.numbers) job.fills
+section_faults job = filter_map (code_fault job.numbers) (sections_of job) ++ filter_map (fill_fault job.numbers) job.fills
 
 abbrev pub IsAmong : LoadFault → List LoadFault → Type 0
 IsAmong f [] = ⊥
@@ -61,10 +62,9 @@ line_of (Some line) = line ∷ []
 abbrev pub unbuilt_lines : Job → List ℕ
 unbuilt_lines job =
     line_of (tiles_line job.numbers job.number_lines)
-    ++ (map (λ section. section.line) job.asms
     ++ (map (λ table. table.line) job.tables
     ++ (map (λ item. item.line) job.script
-    ++ line_of (option_map (λ graph. graph.line) job.graph))))
+    ++ line_of (option_map (λ graph. graph.line) job.graph)))
 
 abbrev pub IsIn : ℕ → List ℕ → Type 0
 IsIn line [] = ⊥
@@ -97,6 +97,6 @@ pub record IsStart (job : Job) (w : WorldView) : Type 0 where
   pub start : w ≡ start_of job
   pub world : IsWorld w
   pub numbers : IsTrue (is_shape job.numbers)
-  pub code : (i : ℕ) → i < tile_count job.numbers → 0 < length (code_of job.codes (tile_at job.numbers i))
+  pub code : (i : ℕ) → i < tile_count job.numbers → 0 < length (code_of (sections_of job) (tile_at job.numbers i))
   pub fills : AllByRecursion (λ f. IsTrue (has_thread job.numbers f.thread) × IsWithin job.numbers.mem f) job.fills
   pub fresh : AllByRecursion IsFreshPart w.parts

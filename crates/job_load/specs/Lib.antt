@@ -1,3 +1,4 @@
+pub mod Assembly
 pub mod Code
 pub mod Faults
 pub mod Gives

@@ -5,7 +5,7 @@ use Rattle.std.specs.declared.result.Result.TheVariants.{Ok, Err}
 use Rattle.tn_rows.specs.WorldView.{WorldView}
 use Rattle.job_text.specs.declared.job.Job.{Job}
 use Rattle.job_load.specs.declared.fault.LoadFault.{LoadFault}
-use Rattle.job_load.specs.Faults.{missing_fault, number_fault, section_fault, unbuilt_fault}
+use Rattle.job_load.specs.Faults.{asm_fault, missing_fault, number_fault, section_fault, unbuilt_fault}
 use Rattle.job_load.specs.Start.{start_of}
 
 -- a fault refuses the job before what comes behind it
@@ -18,6 +18,7 @@ abbrev pub loaded : Job → Result WorldView LoadFault
 loaded job =
     unless (number_fault job)
     (unless (unbuilt_fault job)
+    (unless (asm_fault job)
     (unless (section_fault job)
     (unless (missing_fault job)
-    (Ok (start_of job)))))
+    (Ok (start_of job))))))

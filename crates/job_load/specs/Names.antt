@@ -2,10 +2,14 @@
 use Rattle.std.specs.Prelude.{ℕ, List, codes}
 use Rattle.tn_base.specs.declared.shape.ShapeFault.{ShapeFault}
 use Rattle.tn_base.specs.declared.shape.ShapeFault.TheVariants as number
+use Rattle.asm_text.specs.declared.fault.AsmFault.{AsmFault}
+use Rattle.asm_text.specs.declared.fault.AsmKind.{AsmKind}
+use Rattle.asm_text.specs.declared.fault.AsmKind.TheVariants as asm
 use Rattle.job_text.specs.declared.job.JobKind.{JobKind}
 use Rattle.job_text.specs.declared.job.JobKind.TheVariants as text
 use Rattle.job_load.specs.declared.fault.FaultName.{FaultName}
 use Rattle.job_load.specs.declared.fault.FaultName.TheVariants as fault
+use Rattle.job_load.specs.declared.fault.LoadFault.{LoadFault}
 
 -- a number that is outside its limits
 abbrev pub name_of_number : ShapeFault → FaultName
@@ -31,6 +35,20 @@ name_of_text text.Twice = fault.Twice
 name_of_text text.NoEnd = fault.NoEnd
 name_of_text text.BadWord = fault.BadWord
 name_of_text text.TooMany = fault.TooMany
+
+-- a text that is no assembly
+abbrev pub name_of_asm : AsmKind → FaultName
+name_of_asm asm.BadLine = fault.BadLine
+name_of_asm asm.BadName = fault.BadName
+name_of_asm asm.BadArgs = fault.BadArgs
+name_of_asm asm.BadNumber = fault.BadNumber
+name_of_asm asm.OutOfRange = fault.OutOfRange
+name_of_asm asm.Twice = fault.Twice
+name_of_asm asm.NoLabel = fault.NoLabel
+name_of_asm asm.TooMany = fault.TooMany
+
+abbrev pub fault_of_asm : AsmFault → LoadFault
+fault_of_asm found = record { line = found.line; kind = name_of_asm found.kind }
 
 -- a name as it is printed
 abbrev pub fault_text : FaultName → List ℕ

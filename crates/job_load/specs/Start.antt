@@ -13,6 +13,7 @@ use Rattle.tn_thread.specs.Step.{started}
 use Rattle.tn_tile.specs.Kept.{fresh_tile}
 use Rattle.tn_tile.specs.TileView.{TileView}
 use Rattle.job_text.specs.declared.job.Job.{Job}
+use Rattle.job_load.specs.Assembly.{sections_of}
 use Rattle.job_load.specs.Code.{code_of}
 use Rattle.job_load.specs.Images.{image_at, memory_of}
 
@@ -30,7 +31,7 @@ thread_over n images thread = started n (record { 0 = thread }) (image_at images
 
 -- a tile at its start, over its code and its threads: nothing was sent yet, and nothing was dropped
 abbrev pub tile_start : Job → ℕ → TileView
-tile_start job tile = fresh_tile job.numbers tile (code_of job.codes tile) (by_address (thread_start job) job.numbers tile)
+tile_start job tile = fresh_tile job.numbers tile (code_of (sections_of job) tile) (by_address (thread_start job) job.numbers tile)
 
 -- a part at its start; of the parts there are tiles by now
 abbrev pub part_start : Job → Kind → PartView

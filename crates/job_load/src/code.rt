@@ -1,6 +1,7 @@
 //! The code of each tile.
 
-ghost use Rattle.std.specs.Prelude.{◌≡◌, None, Some, option_copied};
+ghost use Rattle.std.specs.Prelude.{◌≡◌, ◌++◌, None, Some, map, option_copied};
+ghost use Rattle.job_load.specs.Assembly.{as_code};
 ghost use Rattle.job_load.specs.Code.{code_of, is_all, is_empty, is_tile, lacks_code, or_words, words_by};
 ghost use Rattle.job_load.specs.Faults.{missing_fault};
 
@@ -49,25 +50,35 @@ fn own_code(sections: &[CodeSection], tile: TileId) -> Option<&[u32]>
     None
 }
 
-/// The code of a tile.
-pub(crate) fn code_of(sections: &[CodeSection], tile: TileId) -> &[u32]
-    ensures { result.now ≡ code_of sections.now tile.0 }
+/// The code of a tile. Sections of assembly stand behind the others.
+pub(crate) fn code_of<'a>(
+    codes: &'a [CodeSection],
+    asms: &'a [CodeSection],
+    tile: TileId,
+) -> &'a [u32]
+    ensures { result.now ≡ code_of (codes.now ++ asms.now) tile.0 }
 {
-    if let Some(words) = own_code(sections, tile) {
+    if let Some(words) = own_code(codes, tile) {
         return words;
     }
-    match common_code(sections) {
+    if let Some(words) = own_code(asms, tile) {
+        return words;
+    }
+    if let Some(words) = common_code(codes) {
+        return words;
+    }
+    match common_code(asms) {
         Some(words) => words,
         None => &[],
     }
 }
 
 /// Whether some tile has no code.
-fn lacks_code(shape: &Shape, sections: &[CodeSection]) -> bool
-    ensures { result ≡ lacks_code shape.now sections.now }
+fn lacks_code(shape: &Shape, codes: &[CodeSection], asms: &[CodeSection]) -> bool
+    ensures { result ≡ lacks_code shape.now (codes.now ++ asms.now) }
 {
     for i in 0..shape.tile_count() {
-        if code_of(sections, shape.tile_at(i)).is_empty() {
+        if code_of(codes, asms, shape.tile_at(i)).is_empty() {
             return true;
         }
     }
@@ -75,11 +86,12 @@ fn lacks_code(shape: &Shape, sections: &[CodeSection]) -> bool
 }
 
 /// A tile without code, at the shape's line.
-pub(crate) fn missing_fault(shape: &Shape, job: &Job) -> Option<LoadFault>
-    requires { shape.now ≡ job.now.numbers }
+pub(crate) fn missing_fault(shape: &Shape, job: &Job, asms: &[CodeSection]) -> Option<LoadFault>
+    requires numbers { shape.now ≡ job.now.numbers }
+    requires asms { asms.now ≡ map as_code job.now.asms }
     ensures { result ≡ missing_fault job.now }
 {
-    if lacks_code(shape, job.codes.as_slice()) {
+    if lacks_code(shape, job.codes.as_slice(), asms) {
         Some(fault_at(shape_line(&job.number_lines), FaultName::NoCode))
     } else {
         None

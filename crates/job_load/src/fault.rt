@@ -1,8 +1,9 @@
 //! Why a job makes no machine.
 
 ghost use Rattle.std.specs.Prelude.{◌≡◌};
-ghost use Rattle.job_load.specs.Names.{fault_text, name_of_number, name_of_text};
+ghost use Rattle.job_load.specs.Names.{fault_of_asm, fault_text, name_of_asm, name_of_number, name_of_text};
 
+use asm_text::fault::{AsmFault, AsmKind};
 use job_text::job::JobKind;
 use std::alloc::AllocError;
 use tn_base::shape::ShapeFault;
@@ -76,6 +77,18 @@ pub struct LoadFault {
     pub kind: FaultName,
 }
 
+impl LoadFault {
+    /// The fault for which a text is no assembly.
+    pub fn of_asm(fault: AsmFault) -> LoadFault
+        ensures { result ≡ fault_of_asm fault }
+    {
+        LoadFault {
+            line: fault.line,
+            kind: FaultName::of_asm(fault.kind),
+        }
+    }
+}
+
 /// Why there is no machine.
 #[derive(Clone, Copy, PartialEq, Eq, Debug)]
 pub enum LoadStop {
@@ -127,6 +140,22 @@ impl FaultName {
             JobKind::NoEnd => FaultName::NoEnd,
             JobKind::BadWord => FaultName::BadWord,
             JobKind::TooMany => FaultName::TooMany,
+        }
+    }
+
+    /// The name of a fault for which a text is no assembly.
+    pub fn of_asm(kind: AsmKind) -> FaultName
+        ensures { result ≡ name_of_asm kind }
+    {
+        match kind {
+            AsmKind::BadLine => FaultName::BadLine,
+            AsmKind::BadName => FaultName::BadName,
+            AsmKind::BadArgs => FaultName::BadArgs,
+            AsmKind::BadNumber => FaultName::BadNumber,
+            AsmKind::OutOfRange => FaultName::OutOfRange,
+            AsmKind::Twice => FaultName::Twice,
+            AsmKind::NoLabel => FaultName::NoLabel,
+            AsmKind::TooMany => FaultName::TooMany,
         }
     }
 

@@ -3,6 +3,7 @@
 //! The faults in their order stand in `specs/Faults.antt`, the start in `specs/Start.antt`. Read `load::load` first.
 #![tactic(auto)]
 
+pub mod assembly;
 mod code;
 pub mod fault;
 mod image;

@@ -1,9 +1,11 @@
 //! Loading a job.
 
 ghost use Rattle.std.specs.Prelude.{◌≡◌};
+ghost use Rattle.job_text.specs.Numbered.{AreNumbered};
 ghost use Rattle.job_load.specs.Gives.{Gives};
 ghost use Rattle.job_load.specs.Loaded.{loaded};
 
+use crate::assembly::assemble_all;
 use crate::code::missing_fault;
 use crate::fault::LoadStop;
 use crate::numbers::shape_of;
@@ -15,10 +17,11 @@ use std::alloc::Global;
 use tn_world::world::World;
 
 /// The machine of a job at its start, or the first fault: a number outside its limits; what the machine does not have
-/// yet, the first in order of lines; a section that names what the machine does not have, the first in order of lines; a
-/// tile without code. At the start no thread has made a step, no message stands anywhere, none was dropped, and no part
-/// tells an end (`laws::law_start`).
+/// yet, the first in order of lines; a section that is no assembly, at its first line at fault; a section that names what
+/// the machine does not have, the first in order of lines; a tile without code. At the start no thread has made a step,
+/// no message stands anywhere, none was dropped, and no part tells an end (`laws::law_start`).
 pub fn load(alloc: Global, job: &Job) -> Result<World, LoadStop>
+    requires { AreNumbered job.now }
     ensures { Gives result (loaded job.now) }
 {
     let shape = match shape_of(job) {
@@ -28,11 +31,12 @@ pub fn load(alloc: Global, job: &Job) -> Result<World, LoadStop>
     if let Some(fault) = unbuilt_fault(&shape, job) {
         return Err(LoadStop::Fault(fault));
     }
-    if let Some(fault) = section_fault(&shape, job) {
+    let asms = assemble_all(alloc, job.asms.as_slice())?;
+    if let Some(fault) = section_fault(&shape, job, asms.as_slice()) {
         return Err(LoadStop::Fault(fault));
     }
-    if let Some(fault) = missing_fault(&shape, job) {
+    if let Some(fault) = missing_fault(&shape, job, asms.as_slice()) {
         return Err(LoadStop::Fault(fault));
     }
-    Ok(start_of(alloc, &shape, job)?)
+    Ok(start_of(alloc, &shape, job, asms.as_slice())?)
 }

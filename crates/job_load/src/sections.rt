@@ -1,6 +1,7 @@
 //! Sections that name what the machine does not have.
 
-ghost use Rattle.std.specs.Prelude.{◌≡◌};
+ghost use Rattle.std.specs.Prelude.{◌≡◌, map};
+ghost use Rattle.job_load.specs.Assembly.{as_code};
 ghost use Rattle.job_load.specs.Faults.{code_fault, fill_fault, owner_fault, section_fault, sooner, soonest};
 
 use crate::fault::{FaultName, LoadFault};
@@ -67,11 +68,13 @@ fn first_fill_fault(shape: &Shape, fills: &[FillLine]) -> Option<LoadFault>
 }
 
 /// The first section, in order of lines, that names what the machine does not have.
-pub(crate) fn section_fault(shape: &Shape, job: &Job) -> Option<LoadFault>
-    requires { shape.now ≡ job.now.numbers }
+pub(crate) fn section_fault(shape: &Shape, job: &Job, asms: &[CodeSection]) -> Option<LoadFault>
+    requires numbers { shape.now ≡ job.now.numbers }
+    requires asms { asms.now ≡ map as_code job.now.asms }
     ensures { result ≡ section_fault job.now }
 {
     let codes = first_code_fault(shape, job.codes.as_slice());
+    let asms = first_code_fault(shape, asms);
     let fills = first_fill_fault(shape, job.fills.as_slice());
-    sooner(codes, fills)
+    sooner(sooner(codes, asms), fills)
 }

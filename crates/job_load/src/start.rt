@@ -3,13 +3,14 @@
 ghost use Rattle.std.specs.Prelude.{◌≡◌, ◌≤◌, ℕ, IfOk, IsTrue, None, length, map};
 ghost use Rattle.tn_base.specs.Address.{has_tile};
 ghost use Rattle.tn_base.specs.Parts.{parts, tile_at, tile_count};
+ghost use Rattle.job_load.specs.Assembly.{as_code};
 ghost use Rattle.job_load.specs.Faults.{section_fault};
 ghost use Rattle.job_load.specs.Images.{AreImages, image_at};
 ghost use Rattle.job_load.specs.Start.{NamesTile, by_address, part_start, start_of, thread_over, tile_start};
 
 use crate::code::code_of;
 use crate::image::Images;
-use job_text::job::Job;
+use job_text::job::{CodeSection, Job};
 use std::alloc::{AllocError, Global};
 use tn_base::ids::{PartId, TileId};
 use tn_base::laws::law_tiles;
@@ -47,11 +48,13 @@ fn tile_of(
     shape: &Shape,
     images: &Images,
     job: &Job,
+    asms: &[CodeSection],
     tile: TileId,
 ) -> Result<Tile, AllocError>
     requires tile { IsTrue (has_tile shape.now tile.0) }
     requires numbers { shape.now ≡ job.now.numbers }
     requires images { AreImages shape.now.mem job.now.fills images.now }
+    requires asms { asms.now ≡ map as_code job.now.asms }
     ensures { IfOk result (λ t. t ≡ tile_start job.now tile.0) }
 {
     let threads = threads_of(alloc, shape, images, tile)?;
@@ -59,7 +62,7 @@ fn tile_of(
         alloc,
         shape,
         tile,
-        code_of(job.codes.as_slice(), tile),
+        code_of(job.codes.as_slice(), asms, tile),
         threads,
     )
 }
@@ -70,15 +73,17 @@ fn part_of(
     shape: &Shape,
     images: &Images,
     job: &Job,
+    asms: &[CodeSection],
     kind: Kind,
 ) -> Result<Part, AllocError>
     requires kind { NamesTile shape.now kind }
     requires numbers { shape.now ≡ job.now.numbers }
     requires images { AreImages shape.now.mem job.now.fills images.now }
+    requires asms { asms.now ≡ map as_code job.now.asms }
     ensures { IfOk result (λ part. part ≡ part_start job.now kind) }
 {
     match kind {
-        Kind::Tile(tile) => Ok(Part::tile(tile_of(alloc, shape, images, job, tile)?)),
+        Kind::Tile(tile) => Ok(Part::tile(tile_of(alloc, shape, images, job, asms, tile)?)),
         _ => Ok(Part::absent()),
     }
 }
@@ -89,27 +94,36 @@ fn parts_of(
     shape: &Shape,
     images: &Images,
     job: &Job,
+    asms: &[CodeSection],
 ) -> Result<Vec<Part>, AllocError>
     requires numbers { shape.now ≡ job.now.numbers }
     requires images { AreImages shape.now.mem job.now.fills images.now }
+    requires asms { asms.now ≡ map as_code job.now.asms }
     ensures { IfOk result (λ all. all.items ≡ map (part_start job.now) (parts shape.now)) }
 {
     law_tiles(shape);
     let count = shape.part_count();
     let mut all = Vec::with_capacity(alloc, count as usize)?;
     for p in 0..count {
-        all.push(part_of(alloc, shape, images, job, shape.kind(PartId(p)))?)?;
+        let part = part_of(alloc, shape, images, job, asms, shape.kind(PartId(p)))?;
+        all.push(part)?;
     }
     Ok(all)
 }
 
 /// The machine at its start, of a job whose sections name only what the machine has.
-pub(crate) fn start_of(alloc: Global, shape: &Shape, job: &Job) -> Result<World, AllocError>
+pub(crate) fn start_of(
+    alloc: Global,
+    shape: &Shape,
+    job: &Job,
+    asms: &[CodeSection],
+) -> Result<World, AllocError>
     requires numbers { shape.now ≡ job.now.numbers }
+    requires asms { asms.now ≡ map as_code job.now.asms }
     requires sections { section_fault job.now ≡ None }
     ensures { IfOk result (λ world. world ≡ start_of job.now) }
 {
     let images = Images::of(alloc, shape.numbers().mem, job.fills.as_slice())?;
-    let parts = parts_of(alloc, shape, &images, job)?;
+    let parts = parts_of(alloc, shape, &images, job, asms)?;
     Ok(World::of(*shape, parts))
 }

@@ -2,7 +2,8 @@
 
 use crate::fault::{FaultName, LoadStop};
 use crate::load::load;
-use job_text::job::{Job, JobKind};
+use asm_text::fault::AsmKind;
+use job_text::job::JobKind;
 use job_text::read::read_job;
 use std::alloc::Global;
 use std::process::Abort;
@@ -17,19 +18,19 @@ use tn_tile::tile::Tile;
 use tn_world::events::step;
 use tn_world::world::World;
 
-/// The job that a text says.
-fn job_of<H: Abort>(rt: &H, alloc: Global, text: &[u8]) -> Job {
+/// The machine of the job that a text says, or why there is none.
+fn load_text<H: Abort>(rt: &H, alloc: Global, text: &[u8]) -> Result<World, LoadStop> {
     assert!(rt; text.len() < 4000);
     law_line_count(text);
     match read_job(alloc, text) {
-        Ok(job) => job,
+        Ok(job) => load(alloc, &job),
         Err(_) => panic!(rt; "no job"),
     }
 }
 
 /// The machine of the job that a text says.
 fn world_of<H: Abort>(rt: &H, alloc: Global, text: &[u8]) -> World {
-    match load(alloc, &job_of(rt, alloc, text)) {
+    match load_text(rt, alloc, text) {
         Ok(world) => world,
         Err(_) => panic!(rt; "no machine"),
     }
@@ -71,7 +72,7 @@ fn starts_over<H: Abort>(
 }
 
 /// Texts with the line and the name of what refuses them.
-const REFUSED: [(&[u8], u32, FaultName); 57] = [
+const REFUSED: [(&[u8], u32, FaultName); 56] = [
     // Each number, below and above.
     (b"tinsel 1\nshape 0 1 1 1 1 1\n", 2, FaultName::Boards),
     (b"tinsel 1\nshape 1 5 1 1 1 1\n", 2, FaultName::Boards),
@@ -162,11 +163,6 @@ const REFUSED: [(&[u8], u32, FaultName); 57] = [
         FaultName::UnsupportedYet,
     ),
     (
-        b"tinsel 1\nshape 1 1 1 1 1 1\nasm all\nnop\nend\n",
-        3,
-        FaultName::UnsupportedYet,
-    ),
-    (
         b"tinsel 1\nshape 1 1 1 1 1 1\ntable 0 0\nend\n",
         3,
         FaultName::UnsupportedYet,
@@ -194,7 +190,7 @@ const REFUSED: [(&[u8], u32, FaultName); 57] = [
     ),
     (
         b"tinsel 1\nshape 1 1 1 1 1 1\n\nasm all\nend\nhost idle\n",
-        4,
+        6,
         FaultName::UnsupportedYet,
     ),
     (
@@ -324,8 +320,129 @@ const REFUSED: [(&[u8], u32, FaultName); 57] = [
 #[test]
 fn refuses_at_the_first_fault(rt: HostRuntime) {
     for (text, line, kind) in REFUSED {
-        let job = job_of(&rt, rt.alloc(), text);
-        match load(rt.alloc(), &job) {
+        match load_text(&rt, rt.alloc(), text) {
+            Err(LoadStop::Fault(fault)) => {
+                assert!(rt; fault.line == line && fault.kind == kind, "{:?}", fault)
+            }
+            Err(LoadStop::Memory) => panic!(rt; "no memory"),
+            Ok(_) => panic!(rt; "a machine where line {} is at fault", line),
+        }
+    }
+}
+
+/// Sections of assembly with the line and the name of what refuses them.
+const NOT_ASSEMBLED: [(&[u8], u32, FaultName); 20] = [
+    // Each kind at its line; blank lines and comments count.
+    (
+        b"tinsel 1\nshape 1 1 1 1 1 1\nasm all\n nop\n\tfoo x1 # x\nend\n",
+        5,
+        FaultName::BadName,
+    ),
+    (
+        b"tinsel 1\nshape 1 1 1 1 1 1\nasm all\nfoo x1\nend\n",
+        4,
+        FaultName::BadName,
+    ),
+    (
+        b"tinsel 1\n\nshape 1 1 1 1 1 1\nasm 0\n# a\n\nlw a0, (a1)\nend\n",
+        7,
+        FaultName::BadLine,
+    ),
+    (
+        b"tinsel 1\nshape 1 1 1 1 1 1\nasm all\nadd a0, a0\nend\n",
+        4,
+        FaultName::BadArgs,
+    ),
+    (
+        b"tinsel 1\nshape 1 1 1 1 1 1\nasm all\nli a0, 4294967296\nend\n",
+        4,
+        FaultName::BadNumber,
+    ),
+    (
+        b"tinsel 1\nshape 1 1 1 1 1 1\nasm all\naddi a0, a0, 2048\nend\n",
+        4,
+        FaultName::OutOfRange,
+    ),
+    (
+        b"tinsel 1\nshape 1 1 1 1 1 1\nasm all\nx: nop\n\nx:\nend\n",
+        6,
+        FaultName::Twice,
+    ),
+    (
+        b"tinsel 1\nshape 1 1 1 1 1 1\nasm all\nnop\nj there\nend\n",
+        5,
+        FaultName::NoLabel,
+    ),
+    // A line that is not read counts before what assembling finds, and a section before those behind it.
+    (
+        b"tinsel 1\nshape 1 1 1 1 1 1\nasm all\nfoo\nlw a0, (a1)\nend\n",
+        5,
+        FaultName::BadLine,
+    ),
+    (
+        b"tinsel 1\nshape 1 1 1 1 1 1\nasm 0\nfoo\nend\nasm all\nlw a0, (a1)\nend\n",
+        4,
+        FaultName::BadName,
+    ),
+    (
+        b"tinsel 1\nshape 1 1 1 1 1 1\nasm 0\nnop\nend\nasm all\nnop\nadd\nend\n",
+        8,
+        FaultName::BadArgs,
+    ),
+    // Behind the numbers and what is not there yet, and before sections that name what is not there.
+    (
+        b"tinsel 1\nshape 1 1 1 1 1 1\nturn 65\nasm all\nfoo\nend\n",
+        3,
+        FaultName::Turn,
+    ),
+    (
+        b"tinsel 1\nshape 1 1 1 1 1 1\nasm all\nfoo\nend\nhost idle\n",
+        6,
+        FaultName::UnsupportedYet,
+    ),
+    (
+        b"tinsel 1\nshape 1 1 1 1 1 1\ncode 64\nend\nasm all\nfoo\nend\n",
+        6,
+        FaultName::BadName,
+    ),
+    // A tile that is not there, among the other sections in order of lines.
+    (
+        b"tinsel 1\nshape 1 1 1 1 1 1\nasm 64\nnop\nend\n",
+        3,
+        FaultName::BadTile,
+    ),
+    (
+        b"tinsel 1\nshape 1 1 1 1 1 1\nfill 9 0 00\nasm 64\nend\n",
+        3,
+        FaultName::BadThread,
+    ),
+    (
+        b"tinsel 1\nshape 1 1 1 1 1 1\nasm 64\nend\ncode 128\nend\nfill 9 0 00\n",
+        3,
+        FaultName::BadTile,
+    ),
+    (
+        b"tinsel 1\nshape 1 1 1 1 1 1\ncode 128\nend\nasm 64\nend\nfill 9 0 00\n",
+        3,
+        FaultName::BadTile,
+    ),
+    // A section without instructions gives no code, and wins over that of all tiles.
+    (
+        b"tinsel 1\nshape 1 1 1 1 1 1\nasm all\n# x\n\nlabel:\nend\n",
+        2,
+        FaultName::NoCode,
+    ),
+    (
+        b"tinsel 1\nshape 1 1 1 1 1 1\ncode all\n80b01073\nend\nasm 0\nend\n",
+        2,
+        FaultName::NoCode,
+    ),
+];
+
+#[test]
+fn refuses_what_is_not_assembly(rt: HostRuntime) {
+    for (text, line, kind) in NOT_ASSEMBLED {
+        match load_text(&rt, rt.alloc(), text) {
             Err(LoadStop::Fault(fault)) => {
                 assert!(rt; fault.line == line && fault.kind == kind, "{:?}", fault)
             }
@@ -434,7 +551,33 @@ fn prefers_a_tiles_own_code(rt: HostRuntime) -> Result<(), Fail> {
 }
 
 #[test]
+fn takes_assembly(rt: HostRuntime) -> Result<(), Fail> {
+    let alloc = rt.alloc();
+    // A tile's own section wins over that of all tiles, whichever of the two is assembly and stands first.
+    let mut own = world_of(
+        &rt,
+        alloc,
+        b"tinsel 1\nshape 1 1 1 1 1 1\ncode all\n00000000\nend\nasm 0\ncsrrw x0, Kill, x0\nend\n",
+    );
+    assert!(rt; ends_with(&mut own, 0)?);
+    let mut code = world_of(
+        &rt,
+        alloc,
+        b"tinsel 1\nshape 1 1 1 1 1 1\nasm all\n.word 0\nend\ncode 0\n80b01073\nend\n",
+    );
+    assert!(rt; ends_with(&mut code, 0)?);
+    let mut all = world_of(
+        &rt,
+        alloc,
+        b"tinsel 1\nshape 1 1 1 1 1 1\nasm all\n# ends\n csrrw x0, Kill, x0\nend\n",
+    );
+    assert!(rt; ends_with(&mut all, 0)?);
+    Ok(())
+}
+
+#[test]
 fn names_faults(rt: HostRuntime) {
+    assert_eq!(rt; FaultName::of_asm(AsmKind::OutOfRange).name(), "OutOfRange");
     assert_eq!(rt; FaultName::of_number(ShapeFault::Total).name(), "Total");
     assert_eq!(rt; FaultName::of_text(JobKind::NoEnd).name(), "NoEnd");
     assert_eq!(rt; FaultName::UnsupportedYet.name(), "UnsupportedYet");

@@ -30,12 +30,6 @@ fn tiles_line(shape: &Shape, lines: &ShapeNumbers) -> Option<u32>
     }
 }
 
-fn first_text_line(sections: &[TextSection]) -> Option<u32>
-    ensures { result ≡ first_line (λ section. section.line) sections.now }
-{
-    sections.iter().map(|section| section.line).min()
-}
-
 fn first_table_line(tables: &[TableSection]) -> Option<u32>
     ensures { result ≡ first_line (λ table. table.line) tables.now }
 {
@@ -65,7 +59,6 @@ fn unbuilt_line(shape: &Shape, job: &Job) -> Option<u32>
     let mut first = graph_line(&job.graph);
     first = earlier(first_script_line(job.script.as_slice()), first);
     first = earlier(first_table_line(job.tables.as_slice()), first);
-    first = earlier(first_text_line(job.asms.as_slice()), first);
     earlier(tiles_line(shape, &job.number_lines), first)
 }
 

@@ -14,3 +14,4 @@ pub mod Names
 pub mod Keeps
 pub mod Taken
 pub mod ReadJob
+pub mod Numbered

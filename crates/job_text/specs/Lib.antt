@@ -3,5 +3,6 @@ pub mod Arguments
 pub mod Keyword
 pub mod Text
 pub mod Gives
+pub mod Numbered
 pub mod Printed
 pub mod WellFormed

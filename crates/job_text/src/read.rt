@@ -3,6 +3,7 @@
 ghost use Rattle.std.specs.Prelude.{◌≡◌, ◌-◌, ◌<◌, ◌^◌, length, IfOk};
 ghost use Rattle.tn_text.specs.Lines.{lines_of};
 ghost use Rattle.job_text.specs.Text.{job_of};
+ghost use Rattle.job_text.specs.Numbered.{AreNumbered};
 ghost use Rattle.job_text.specs.WellFormed.{IsWellFormed};
 ghost use Rattle.job_text.specs.Gives.{Gives, stop_at};
 
@@ -44,6 +45,8 @@ pub fn read_job(alloc: Global, text: &[u8]) -> Result<Job, JobStop>
     ensures read { Gives result (job_of (lines_of text.now)) }
     // So its printed form is read again as the same job, by `law_read_back`.
     ensures well_formed { IfOk result (λ job. IsWellFormed job) }
+    // The lines of its sections of assembly are lines of the text.
+    ensures numbered { IfOk result (λ job. AreNumbered job) }
 {
     read(alloc, text)
 }

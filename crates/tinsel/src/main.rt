@@ -1,4 +1,4 @@
-//! The program: the top call over the standard streams.
+//! The program: the top calls over the standard streams.
 #![tactic(auto)]
 
 use std::alloc::{AllocError, Global};
@@ -8,6 +8,7 @@ use std::{env, io};
 use tn_io::gate::OpenGate;
 use tn_io::standard::{StdSink, StdSource};
 use tn_run::kept::Kept;
+use tn_run::plain::plain_top;
 use tn_run::status::Status;
 use tn_run::top::run_top;
 
@@ -20,6 +21,14 @@ fn words_of(alloc: Global, args: Args) -> Result<Vec<String>, AllocError> {
     Ok(words)
 }
 
+/// Whether the first word names the command that runs a machine.
+fn is_for_machine(words: &[String]) -> bool {
+    match words {
+        [first, ..] => first.as_bytes() == b"run".as_slice(),
+        [] => false,
+    }
+}
+
 fn main(rt: HostRuntime) -> ExitCode {
     let alloc: Global = rt.alloc();
     let Ok(args) = env::args(&rt) else {
@@ -30,6 +39,10 @@ fn main(rt: HostRuntime) -> ExitCode {
     };
     let mut source = StdSource::of(rt.reader());
     let mut sink = StdSink::of(io::writer(&rt));
+    if !is_for_machine(words.as_slice()) {
+        let status = plain_top(alloc, words.as_slice(), &mut source, &mut sink);
+        return finish(&rt, status);
+    }
     let mut kept = Kept::new(alloc);
     let status = run_top(
         &rt,

@@ -10,11 +10,11 @@ use Rattle.tn_run.specs.Kept.{KeptView}
 use Rattle.tn_run.specs.Top.{Ports, most_bytes, Answers, Finishes, Completes, IsCalm}
 
 -- all that was left is all that is told
-whole_is : (input bytes : List ℕ) (new : Option (List ℕ)) → IsWhole bytes most_bytes (Some input) new → bytes ≡ input
+pub whole_is : (input bytes : List ℕ) (new : Option (List ℕ)) → IsWhole bytes most_bytes (Some input) new → bytes ≡ input
 whole_is input bytes None h = absurd h.all
 whole_is input bytes (Some rest) h = sym (h.all ∙ ap (λ (r : List ℕ). bytes ++ r) h.ended ∙ append-nil bytes)
 
-taken_fits : (input taken : List ℕ) (new : Option (List ℕ)) → Consumes (Some input) new taken → length taken ≤ length input
+pub taken_fits : (input taken : List ℕ) (new : Option (List ℕ)) → Consumes (Some input) new taken → length taken ≤ length input
 taken_fits input taken None h = absurd h
 taken_fits input taken (Some rest) h = omega (arith, ap length h, length-append taken rest)
 

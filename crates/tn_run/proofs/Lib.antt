@@ -1,3 +1,4 @@
 pub mod Complete
 pub mod Ending
+pub mod PlainStatuses
 pub mod Statuses

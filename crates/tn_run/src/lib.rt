@@ -2,7 +2,7 @@
 //!
 //! What the call answers, and why, stands in `specs/Top.antt`; the answer to an input in `specs/Answer.antt`, the
 //! report in `specs/Report.antt`. What a run is, and how it ends, is `tn_rows`; what a job makes is `job_load`. Read
-//! `top::run_top` first.
+//! `top::run_top` first. What the commands on texts write and answer stands in `specs/Plain.antt`: `plain::plain_top`.
 #![tactic(auto)]
 
 pub mod answer;
@@ -10,6 +10,7 @@ pub mod answer;
 mod fault_tests;
 pub mod history;
 pub mod kept;
+pub mod plain;
 #[cfg(test)]
 mod program_tests;
 pub mod report;

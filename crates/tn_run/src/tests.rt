@@ -1,5 +1,7 @@
 //! Whole calls over sources and sinks in memory. The expected texts are worked out by hand from docs/MACHINE.md.
 
+mod texts;
+
 use crate::kept::Kept;
 use crate::status::Status;
 use crate::top::run_top;

@@ -11,6 +11,6 @@ part_of-requires-clause-kind c = rw c.kind.ensures (kind_named c.args.shape.now 
 
 pub loop-p-preserved : goal.loop-p-preserved
 loop-p-preserved c =
-    let made = c.in_ok-part_of.ensures ∙ ap (part_start c.args.job.now) c.kind.ensures in
-    let more = more_made (part_start c.args.job.now) (parts c.args.shape.now) c.loop-p.p c.loop-p.all.items c.in_ok-part_of.field-0 kind.Detector (omega arith) made in
+    let made = c.in_ok-part.ensures ∙ ap (part_start c.args.job.now) c.kind.ensures in
+    let more = more_made (part_start c.args.job.now) (parts c.args.shape.now) c.loop-p.p c.loop-p.all.items c.in_ok-part.part kind.Detector (omega arith) made in
     rw c.in_ok-push.ensures.items (more ∙ c.loop-p.invariant)

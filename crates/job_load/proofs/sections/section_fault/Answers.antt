@@ -1,0 +1,21 @@
+use Rattle.std.proofs.Common.{map, refl}
+use Rattle.job_load.specs.Assembly.{as_code}
+use Rattle.job_load.specs.Faults.{code_fault}
+use Rattle.job_load.proofs.Faults.{soonest_append}
+use Rattle.job_load.proofs.sections.section_fault.Goals as goal
+
+pub returns : goal.returns
+returns c =
+    let joined = soonest_append (code_fault c.args.job.now.numbers) c.args.job.now.codes (map as_code c.args.job.now.asms) in
+    rw (
+      joined,
+      c.sooner-2.ensures,
+      c.sooner.ensures,
+      c.first_code_fault-codes.ensures,
+      c.first_code_fault-asms.ensures,
+      c.first_fill_fault-fills.ensures,
+      c.as_slice.ensures,
+      c.as_slice-2.ensures,
+      c.requires.numbers,
+      c.requires.asms,
+    ) refl
