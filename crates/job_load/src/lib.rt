@@ -1,6 +1,7 @@
 //! From a job to its machine at the start, or to the first fault.
 //!
-//! The faults in their order stand in `specs/Faults.antt`, the start in `specs/Start.antt`. Read `load::load` first.
+//! The faults in their order stand in `specs/Faults.antt`, the start in `specs/Start.antt`, what sections of assembly give
+//! in `specs/Assembly.antt`. Read `load::load` first.
 #![tactic(auto)]
 
 pub mod assembly;

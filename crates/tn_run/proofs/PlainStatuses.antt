@@ -5,12 +5,10 @@ use Rattle.std.specs.declared.result.Result.TheVariants.{Ok, Err}
 use Rattle.std.specs.Io.KnownBytes.{Consumes}
 use Rattle.tn_io.specs.Whole.{IsWhole}
 use Rattle.job_load.specs.declared.fault.LoadFault.{LoadFault}
-use Rattle.job_load.specs.declared.fault.LoadStop.{LoadStop}
-use Rattle.job_load.specs.declared.fault.LoadStop.TheVariants as stop
 use Rattle.tn_run.specs.declared.status.Status.{Status}
 use Rattle.tn_run.specs.declared.status.Status.TheVariants.{Done, Usage, Refused, Trapped, BadKey, Spent, Jammed, ReadFault, WriteFault, Memory, TooLong}
 use Rattle.tn_run.specs.declared.words.Command.{Command}
-use Rattle.tn_run.specs.Plain.{IsPlainCalm, IsStop, PlainAnswers, PlainCompletes, PlainFinishes, answer_by, before, made_by, onto, plain_answer}
+use Rattle.tn_run.specs.Plain.{IsPlainCalm, PlainAnswers, PlainCompletes, PlainFinishes, answer_by, before, made_by, onto, plain_answer}
 use Rattle.tn_run.specs.Top.{Ports, most_bytes}
 use Rattle.tn_run.specs.Words.{command_of}
 use Rattle.tn_run.proofs.Complete.{taken_fits, whole_is}
@@ -21,11 +19,6 @@ pub onto_before : (old new : List ℕ) (r more : Result (List ℕ) LoadFault) �
 onto_before old new (Ok text) (Ok more) h = let same : old ++ text ≡ new = cc in rw (← same, append_assoc old text more) refl
 onto_before old new (Ok text) (Err found) h = refl
 onto_before old new (Err found) more h = cc
-
-pub stop_before : (old : List ℕ) (r more : Result (List ℕ) LoadFault) (why : LoadStop) → IsStop why (onto old r) → IsStop why (onto old (before r more))
-stop_before old r more stop.Memory h = tt
-stop_before old (Ok text) more (stop.Fault found) h = cc
-stop_before old (Err other) more (stop.Fault found) h = h
 
 -- The statuses of answers.
 
