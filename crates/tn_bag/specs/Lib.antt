@@ -1,0 +1,7 @@
+pub mod Letters
+pub mod State
+pub mod Machine
+pub mod Tiles
+pub mod Standing
+pub mod Steps
+pub mod Law

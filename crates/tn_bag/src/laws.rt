@@ -1,0 +1,15 @@
+//! Laws of runs. A law answers nothing: its contract is what it says.
+
+ghost use Rattle.tn_rows.specs.Runs.{Run};
+ghost use Rattle.tn_bag.specs.Law.{IsBagRun, IsStart};
+
+use tn_base::event::Event;
+use tn_world::world::World;
+
+/// Each run of a machine from its start is a run of the bag machine: what a thread is handed was sent to it, and a letter
+/// that is neither handed nor dropped stands in a named place.
+pub fn law_flight(start: &World, history: &[Event], end: &World)
+    requires start { IsStart start.now }
+    requires run { Run start.now history.now end.now }
+    ensures { IsBagRun start.now history.now end.now }
+{}

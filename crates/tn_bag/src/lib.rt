@@ -1,0 +1,8 @@
+//! What a machine means: threads that send and receive letters, and one bag of the letters in flight.
+//!
+//! The bag machine stands in `specs/Machine.antt`. Read `specs/State.antt` before it, then `specs/Law.antt`.
+#![tactic(auto)]
+
+pub mod laws;
+pub mod place;
+pub mod steps;
