@@ -6,3 +6,4 @@ pub mod Holding
 pub mod Fits
 pub mod Runs
 pub mod Simulate
+pub mod Threads
