@@ -7,3 +7,5 @@ pub mod Fits
 pub mod Runs
 pub mod Simulate
 pub mod Threads
+pub mod Receivers
+pub mod Delivery

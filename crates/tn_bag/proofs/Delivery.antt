@@ -1,0 +1,307 @@
+-- A delivery: the packet is stored, its letters for dead receivers are dropped, or it goes on.
+use Rattle.std.specs.Int.{bit_at}
+use Rattle.std.specs.List.{range_with_len}
+use Rattle.std.proofs.lemmas.Bool.{and_parts, cases_eq, eq-eqb, eqb-true, ltb-true, ne_eqb}
+use Rattle.std.proofs.lemmas.List.{get_or-set_same, get_or-set_other, length-map}
+use Rattle.std.proofs.lemmas.List.Sums.{sum_by-append, sum_by-cons, sum_by-set}
+use Rattle.tn_base.specs.declared.ids.ThreadId.{ThreadId}
+use Rattle.tn_base.specs.declared.message.Dest.{Dest}
+use Rattle.tn_base.specs.declared.message.Letter.{Letter}
+use Rattle.tn_base.specs.declared.message.Packet.{Packet}
+use Rattle.tn_base.specs.declared.op.Op.{Op}
+use Rattle.tn_base.specs.declared.op.Op.TheVariants as op
+use Rattle.tn_base.specs.declared.shape.ShapeNumbers.{ShapeNumbers}
+use Rattle.tn_base.specs.Address.{has_thread, in_tile, place_in_tile, tile_of, tile_place, tile_threads}
+use Rattle.tn_base.specs.Parts.{tile_part}
+use Rattle.tn_base.specs.Shape.{WithinLimits}
+use Rattle.tn_base.proofs.TilePlaces.{place_named}
+use Rattle.tn_slots.specs.Pool.{Holds, held_by, key_for, key_in, left, queue_at, slot_at, taken, taken_from}
+use Rattle.tn_slots.specs.Queues.{first_of}
+use Rattle.tn_slots.specs.Slot.{taken_slot}
+use Rattle.tn_slots.specs.WellKept.{WellKept}
+use Rattle.tn_slots.proofs.Kept.{first_owed, freed_kept, held_within, left_kept, owed_within, taken_kept}
+use Rattle.tn_thread.specs.declared.state.ThreadState.TheVariants as state
+use Rattle.tn_thread.specs.declared.thread.Thread.{Thread}
+use Rattle.tn_thread.specs.Fits.{OpFits, StepFits}
+use Rattle.tn_thread.specs.Sight.{Sight}
+use Rattle.tn_thread.specs.Step.{Stepped, runnable}
+use Rattle.tn_tile.specs.Kept.{WellShaped}
+use Rattle.tn_tile.specs.Receivers.{is_dead}
+use Rattle.tn_tile.specs.Step.{acted, can_step, next_step, no_thread, pending_at, sight_at, step_at_place, stepped, thread_at, with_thread}
+use Rattle.tn_tile.specs.TileView.{TileView}
+use Rattle.tn_tile.proofs.Packed.{few_places}
+use Rattle.tn_tile.proofs.Shaped.{step_shaped}
+use Rattle.tn_rows.specs.PartView.{PartView, TileV, AbsentV}
+use Rattle.tn_rows.specs.WorldView.{WorldView}
+use Rattle.tn_bag.specs.declared.steps.BagStep.{BagStep}
+use Rattle.tn_bag.specs.declared.steps.BagStep.TheVariants as bag
+use Rattle.tn_bag.specs.declared.steps.Seen.{Seen}
+use Rattle.tn_bag.specs.Law.{dropped_in, dropped_on}
+use Rattle.tn_bag.specs.Letters.{SameBag, Takes, letters, packet_letters}
+use Rattle.tn_bag.specs.Machine.{Allows, BagRun, Happens, IsAllowed, IsPrivate, MayStandFirst, MayStep, SamePacket, ended_by, freed, handed, own_step, sent_by, sight, with_own_step}
+use Rattle.tn_bag.specs.Standing.{bag_at, standing_letters}
+use Rattle.tn_bag.specs.State.{Agree, BagState, Program, Same, put}
+use Rattle.tn_bag.specs.Steps.{dropped_by, first_letter, queued, seen_at, step_by, thread_step}
+use Rattle.tn_bag.specs.Tiles.{held_in, held_of, letter_in, part_for, program_of, reach_of, sender_at, thread_of, tile_for}
+use Rattle.tn_bag.proofs.Fits.{next_fits}
+use Rattle.tn_bag.proofs.Holding.{freed_here, freed_others, left_here, left_others, taken_here, taken_others}
+use Rattle.tn_bag.proofs.Lift.{Good, GoodTile, On, Stands, good_lift, lift_put, lift_same, on_new, part_is, place_within, program_stays, tile_here, tile_is, tile_stands, with_tile}
+use Rattle.tn_bag.proofs.Runs.{ForDead, discards, run_before, run_join, same_refl}
+use Rattle.tn_bag.proofs.Slots.{freed_w, left_w, taken_w}
+use Rattle.tn_bag.proofs.Sums.{sum_one}
+use Rattle.tn_bag.proofs.Weights.{packet_w, same_bag, tile_w}
+use Rattle.std.proofs.Common.{ℕ, ◌+◌, ◌-◌, ◌*◌, ◌^◌, ◌<◌, ◌≤◌, ◌≡◌, ◌≢◌, ◌⊎◌, ◌==◌, Bool, true, false, cond, List, [], ◌∷◌, ◌++◌, length, get_or, set, map, zero, suc, refl, sym, ◌∙◌, ap, subst, inl, inr, arith, length-set, Option, Some, None, is_none, is_some, option_map, unwrap_or, MatchOption, IsTrue, length-append, sum_by}
+use Rattle.std.specs.Int.{bit_not, w64}
+use Rattle.std.specs.Int.RustNames.{count_ones}
+use Rattle.std.specs.Int.Bits.{bit_and}
+use Rattle.std.specs.List.{filter, flat_map}
+use Rattle.std.proofs.lemmas.Bool.{le-leb}
+use Rattle.std.proofs.lemmas.List.{get_or_default}
+use Rattle.std.proofs.lemmas.Nat.{and_le_l, and_le_r, pow_pos}
+use Rattle.std.proofs.Math.Nat.{pow-le-pow_right}
+use Rattle.tn_base.specs.declared.message.Dest.TheVariants as dest
+use Rattle.tn_base.specs.declared.port.Port.{Port}
+use Rattle.tn_base.specs.declared.port.Port.TheVariants as port
+use Rattle.tn_base.specs.Message.{has_dest, has_packet, slot_bytes}
+use Rattle.tn_base.specs.Ports.{tile_port}
+use Rattle.tn_base.proofs.TilePlaces.{place_back, place_below, place_there}
+use Rattle.tn_slots.specs.declared.slot.Slot.{Slot}
+use Rattle.tn_slots.specs.Pool.{first_free, put_at}
+use Rattle.tn_slots.specs.Queues.{appended}
+use Rattle.tn_slots.specs.Slot.{is_free}
+use Rattle.tn_slots.proofs.Kept.{first_free_is, free_masks, put_kept}
+use Rattle.tn_slots.proofs.Lists.{bit_cases}
+use Rattle.tn_tile.specs.declared.buffers.Buffers.{Buffers}
+use Rattle.tn_tile.specs.declared.tile.Sender.{Sender}
+use Rattle.tn_tile.specs.Receivers.{alive_of, dead_in, dead_of, packed, receivers}
+use Rattle.tn_tile.specs.Rows.{buffer_at, counted, passed, passed_by, received, sent_on, stored, stored_at, with_buffer}
+use Rattle.tn_tile.proofs.Dead.{dead_at, dead_below, dead_bit}
+use Rattle.tn_tile.proofs.Packed.{one_place, packed_below}
+use Rattle.tn_tile.proofs.Packets.{packet_fits}
+use Rattle.tn_tile.proofs.Shaped.{FitsIn, notes_shaped, pending_shaped, put_shaped, transit_shaped}
+use Rattle.tn_bag.specs.Letters.{Reach, each_below, letter, only_if}
+use Rattle.tn_bag.specs.Steps.{is_for_dead}
+use Rattle.tn_bag.proofs.Holding.{no_sender, stored_held}
+use Rattle.tn_bag.proofs.Receivers.{both_sets, letters_here, ones_are, parted, place_letter}
+use Rattle.tn_bag.proofs.Simulate.{Place, Reached, Sizes, address_is, dropped_after, quiet_bag, read, shown, sizes, tile_good}
+use Rattle.tn_bag.proofs.Slots.{slot_none, slot_replaced, slot_w}
+use Rattle.tn_bag.proofs.Sums.{sum_filter, sum_same, sum_two}
+use Rattle.tn_bag.proofs.Threads.{pending_set}
+use Rattle.tn_bag.proofs.Weights.{buffers_w, slots_w}
+
+-- ---- letters that are dropped, and nothing else but places changes
+
+pub record Drops (w : WorldView) (p : ℕ) (v new : TileView) (ls : List Letter) : Type 0 where
+  pub weighs : (f : Letter → ℕ) → tile_w f (reach_of w) v ≡ sum_by f ls + tile_w f (reach_of w) new
+  pub holds : (j : ℕ) → held_in new j ≡ held_in v j
+  pub threads : new.threads ≡ v.threads
+  pub shape : new.shape ≡ v.shape
+  pub tile : new.tile ≡ v.tile
+  pub code : new.code ≡ v.code
+  pub shaped : WellShaped new
+  pub kept : WellKept new.pool
+  pub dropped : new.dropped ≡ v.dropped + length ls
+
+pub drops_reached : (got : ℕ → List Letter) (dropped : List Letter) (w : WorldView) (p : ℕ) (v new : TileView) (ls : List Letter) → Good w → On w p v → Drops w p v new ls → ForDead w.shape (shown got dropped (with_tile w p new)) ls →
+    Reached got dropped w (map bag.Discard ls) (with_tile w p new)
+drops_reached got dropped w p v new ls good on d dead =
+    let t = good.each p v on in
+    let there : WorldView = with_tile w p new in
+    record {
+      now = got;
+      gone = dropped ++ ls;
+      run = run_before (program_of w) (shown got dropped w) (record (shown got dropped there) { flight = ls ++ standing_letters there }) (shown got (dropped ++ ls) there) (map bag.Discard ls)
+          (record {
+            threads = λ b h. lift_same thread_at w p v new on (λ j u. ap (λ ts. get_or ts j no_thread) d.threads) b h;
+            flight = same_bag _ _ (λ f.
+                let x = d.weighs f in
+                let y = tile_stands f w p v new (sum_by f ls) 0 on (omega arith) in
+                let q = sum_by-append f ls (standing_letters there) in
+                omega arith);
+            got = λ b h. refl;
+            held = λ b slot h. ap (λ (x : ℕ → Option Letter). x slot) (lift_same held_in w p v new on (λ j u. d.holds j) b h);
+            dropped = refl;
+            host = refl;
+            script = refl;
+            host_sends = refl;
+            announcements = refl;
+          })
+          (discards (program_of w) (shown got dropped there) ls (standing_letters there) dropped dead);
+      good = good_lift w p v new good on (record { shape = d.shape ∙ t.shape; shaped = d.shaped; kept = d.kept; part = ap (λ x. tile_part (tile_place w.shape x)) d.tile ∙ t.part });
+      program = program_stays w p v new on d.code;
+      count =
+          let a = dropped_after w p v new on in
+          let l = length-append dropped ls in
+          let m = d.dropped in
+          omega arith;
+    }
+
+-- ---- a packet that goes on
+
+none_from : (o : Option Packet) → is_none o ≡ true → o ≡ None
+none_from None e = refl
+none_from (Some x) e = cc e
+
+abbrev pub IsOut : Port → Type 0
+IsOut port.East = Unit {0}
+IsOut port.West = Unit {0}
+IsOut port.South = Unit {0}
+IsOut port.North = Unit {0}
+IsOut port.Up = Unit {0}
+IsOut port.Down = ⊥
+IsOut port.HostPort = ⊥
+IsOut port.Here = ⊥
+
+buffer_more : (f : Letter → ℕ) (n : ShapeNumbers) (reach : Reach) (way : Port) (p : Packet) (b : Buffers) → IsOut way → buffer_at way b ≡ None → buffers_w f n reach (with_buffer way (Some p) b) ≡ buffers_w f n reach b + packet_w f n reach (Some p)
+buffer_more f n reach port.East p b out e = let z : packet_w f n reach b.east ≡ 0 = ap (packet_w f n reach) e in omega arith
+buffer_more f n reach port.West p b out e = let z : packet_w f n reach b.west ≡ 0 = ap (packet_w f n reach) e in omega arith
+buffer_more f n reach port.South p b out e = let z : packet_w f n reach b.south ≡ 0 = ap (packet_w f n reach) e in omega arith
+buffer_more f n reach port.North p b out e = let z : packet_w f n reach b.north ≡ 0 = ap (packet_w f n reach) e in omega arith
+buffer_more f n reach port.Up p b out e = let z : packet_w f n reach b.up ≡ 0 = ap (packet_w f n reach) e in omega arith
+buffer_more f n reach port.Down p b out e = absurd out
+buffer_more f n reach port.HostPort p b out e = absurd out
+buffer_more f n reach port.Here p b out e = absurd out
+
+-- the tile after its thread's packet is taken up
+abbrev pub taken_up : TileView → ℕ → TileView
+taken_up v k = record v { pending = set v.pending k None }
+
+on_drops : (w : WorldView) (p a k : ℕ) (v : TileView) (packet : Packet) (way : Port) → Place w p v a k → pending_at v k ≡ Some packet → IsOut way → buffer_at way v.transit ≡ None →
+    Drops w p v (record (taken_up v k) { transit = with_buffer way (Some packet) v.transit }) []
+on_drops w p a k v packet way c e out empty =
+    let t = tile_good w p a k v c in
+    let z = sizes w p a k v c in
+    let fits = packet_fits v k packet t.shaped e in
+    record {
+      weighs = λ f.
+          let x = pending_set f w v k None z.below z.pending in
+          let y : packet_w f v.shape (reach_of w) (pending_at v k) ≡ packet_w f v.shape (reach_of w) (Some packet) = ap (packet_w f v.shape (reach_of w)) e in
+          let b = buffer_more f v.shape (reach_of w) way packet v.transit out empty in
+          omega arith;
+      holds = λ j. refl;
+      threads = refl;
+      shape = refl;
+      tile = refl;
+      code = refl;
+      shaped = transit_shaped (taken_up v k) way (Some packet) fits (pending_shaped v k None tt t.shaped);
+      kept = t.kept;
+      dropped = omega arith;
+    }
+
+-- ---- a packet whose receivers are here
+
+-- the tile after a message was stored for a set of places
+pub record Stored (w : WorldView) (set : ℕ) (p : Packet) (v mid : TileView) : Type 0 where
+  pub weighs : (f : Letter → ℕ) → tile_w f (reach_of w) mid ≡ tile_w f (reach_of w) v + sum_by (λ k. cond (bit_at set k == 1) (f (place_letter v.shape v.tile p.origin p.number p.bytes k)) 0) (range_with_len 0 (tile_threads v.shape))
+  pub holds : (j : ℕ) → held_in mid j ≡ held_in v j
+  pub threads : mid.threads ≡ v.threads
+  pub shape : mid.shape ≡ v.shape
+  pub tile : mid.tile ≡ v.tile
+  pub code : mid.code ≡ v.code
+  pub shaped : WellShaped mid
+  pub kept : WellKept mid.pool
+  pub dropped : mid.dropped ≡ v.dropped
+
+put_stored : (w : WorldView) (mask : ℕ) (p : Packet) (v : TileView) (s : ℕ) → WellShaped v → WellKept v.pool → mask < 2 ^ length v.pool.queues → length p.bytes ≤ v.pool.slot_bytes → first_free v.pool ≡ Some s →
+    Stored w mask p v (record v { pool = put_at s p.bytes mask v.pool; senders = set v.senders s (record { origin = p.origin; number = p.number }) })
+put_stored w mask p v s shaped kept low short e =
+    let free = first_free_is v.pool s e in
+    let from : Sender = record { origin = p.origin; number = p.number } in
+    let x : Slot = record { bytes = p.bytes; owed = mask; holders = 0 } in
+    let queues : List (List ℕ) = appended mask s v.pool.queues in
+    let there : s < length v.senders = let a = free.0 in let b = shaped.slots in let d = shaped.senders in omega arith in
+    record {
+      weighs = λ f.
+          let a = slot_replaced f v s x queues (set v.senders s from) free.0 (λ j ne. get_or-set_other v.senders s j from no_sender ne) in
+          let b : slot_w f v (get_or (set v.senders s from) s no_sender) x ≡ slot_w f v from x = ap (λ d. slot_w f v d x) (get_or-set_same v.senders s from no_sender there) in
+          let d = slot_none f v (sender_at v s) (slot_at v.pool s) (free_masks (slot_at v.pool s) free.1).0 in
+          omega arith;
+      holds = λ j. stored_held v s mask p.bytes from queues j free.0 free.1;
+      threads = refl;
+      shape = refl;
+      tile = refl;
+      code = refl;
+      shaped = put_shaped v s mask p.bytes from shaped;
+      kept = put_kept v.pool s p.bytes mask free.0 free.1 low short kept;
+      dropped = refl;
+    }
+
+stored_by : (w : WorldView) (mask : ℕ) (p : Packet) (v mid : TileView) (slot : Option ℕ) → WellShaped v → WellKept v.pool → mask < 2 ^ length v.pool.queues → length p.bytes ≤ v.pool.slot_bytes → first_free v.pool ≡ slot → stored_at slot mask p v ≡ Some mid → Stored w mask p v mid
+stored_by w mask p v mid None shaped kept low short e is = cc is
+stored_by w mask p v mid (Some s) shaped kept low short e is =
+    let new : TileView = record v { pool = put_at s p.bytes mask v.pool; senders = set v.senders s (record { origin = p.origin; number = p.number }) } in
+    let same : new ≡ mid = ap (λ (o : Option TileView). unwrap_or o new) is in
+    subst (Stored w mask p v) same (put_stored w mask p v s shaped kept low short e)
+
+nobody_stored : (w : WorldView) (mask : ℕ) (p : Packet) (v : TileView) → WellShaped v → WellKept v.pool → mask ≡ 0 → Stored w mask p v v
+nobody_stored w mask p v shaped kept e = record {
+  weighs = λ f.
+      let d = slot_none f v (record { origin = p.origin; number = p.number }) (record { bytes = p.bytes; owed = mask; holders = 0 }) e in
+      omega arith;
+  holds = λ j. refl;
+  threads = refl;
+  shape = refl;
+  tile = refl;
+  code = refl;
+  shaped = shaped;
+  kept = kept;
+  dropped = refl;
+}
+
+stored_is : (w : WorldView) (mask : ℕ) (p : Packet) (v mid : TileView) (b : Bool) → (mask == 0) ≡ b → WellShaped v → WellKept v.pool → mask < 2 ^ length v.pool.queues → length p.bytes ≤ v.pool.slot_bytes → cond b (Some v) (stored_at (first_free v.pool) mask p v) ≡ Some mid → Stored w mask p v mid
+stored_is w mask p v mid true e shaped kept low short is =
+    let same : v ≡ mid = ap (λ (o : Option TileView). unwrap_or o v) is in
+    subst (Stored w mask p v) same (nobody_stored w mask p v shaped kept (eqb-true _ _ e))
+stored_is w mask p v mid false e shaped kept low short is = stored_by w mask p v mid (first_free v.pool) shaped kept low short refl is
+
+-- ---- which letters are dropped
+
+-- the receivers on a tile are among its places
+receivers_below : (n : ShapeNumbers) (tile : ℕ) (to : Dest) → WithinLimits n → IsTrue (has_dest n to) → receivers n to < 2 ^ tile_threads n
+receivers_below n tile (dest.Thread t) limits fits = (one_place n (place_in_tile n t.0) limits (place_below n t.0 fits)).1
+receivers_below n tile dest.Host limits fits = pow_pos (tile_threads n)
+receivers_below n tile (dest.Mask at mask) limits fits = packed_below n mask limits (and_parts _ _ fits).1
+receivers_below n tile (dest.Key key) limits fits = pow_pos (tile_threads n)
+
+-- the bit of a thread among those that ended
+dead_bit_at : (v : TileView) (k : ℕ) → k < length v.threads → bit_at (dead_in v.threads) k ≡ cond (is_dead (thread_at v k).state) 1 0
+dead_bit_at v k h = dead_at v.threads k ∙ ap dead_bit (get_or_default v.threads k _ no_thread h)
+
+-- the letters for those that ended, by place
+dead_letters : (f : Letter → ℕ) (w : WorldView) (p a k : ℕ) (v : TileView) (packet : Packet) → Place w p v a k → IsTrue (has_packet v.shape packet) → tile_port v.tile packet.dest ≡ port.Here →
+    sum_by f (filter (is_for_dead v) (packet_letters v.shape (reach_of w) packet))
+    ≡ sum_by (λ j. cond (bit_at (dead_of v.threads (receivers v.shape packet.dest)) j == 1) (f (place_letter v.shape v.tile packet.origin packet.number packet.bytes j)) 0) (range_with_len 0 (tile_threads v.shape))
+dead_letters f w p a k v packet c fits here =
+    let t = tile_good w p a k v c in
+    let limits : WithinLimits v.shape = subst WithinLimits (sym t.shape) c.good.limits in
+    let l : ℕ → Letter = place_letter v.shape v.tile packet.origin packet.number packet.bytes in
+    sum_filter f (is_for_dead v) (packet_letters v.shape (reach_of w) packet)
+    ∙ (letters_here (λ x. cond (is_for_dead v x) (f x) 0) v.shape (reach_of w) v.tile packet.origin packet.number packet.dest packet.bytes limits t.shaped.tile (and_parts _ _ fits).0 here
+    ∙ sum_same (λ j. cond (bit_at (receivers v.shape packet.dest) j == 1) (cond (is_for_dead v (l j)) (f (l j)) 0) 0) (λ j. cond (bit_at (dead_of v.threads (receivers v.shape packet.dest)) j == 1) (f (l j)) 0) 0 (tile_threads v.shape)
+    (λ j low high.
+    let below : j < tile_threads v.shape = omega arith in
+    let within : j < length v.threads = let n = t.shaped.threads in omega arith in
+    let same : is_dead (thread_at v j).state ≡ is_for_dead v (l j) = ap (λ x. is_dead (thread_at v x).state) (sym (place_back v.shape v.tile j limits t.shaped.tile below).1) in
+    sym (both_sets (receivers v.shape packet.dest) (dead_in v.threads) j (f (l j)) (is_for_dead v (l j)) (dead_bit_at v j within ∙ ap (λ b. cond b 1 0) same))))
+
+ones_in : (xs : List Letter) → sum_by (λ _. 1) xs ≡ length xs
+ones_in [] = refl
+ones_in (x ∷ xs) = let a = sum_by-cons (λ (_ : Letter). 1) x xs in let r = ones_in xs in omega arith
+
+bit_or_none : (b : ℕ) → (b ≡ 1) ⊎ (b ≡ 0) → cond (b == 1) 1 0 ≡ b
+bit_or_none b (inl e) = rw e refl
+bit_or_none b (inr e) = rw e refl
+
+-- they are as many as are counted
+dead_count : (w : WorldView) (p a k : ℕ) (v : TileView) (packet : Packet) → Place w p v a k → IsTrue (has_packet v.shape packet) → tile_port v.tile packet.dest ≡ port.Here →
+    length (filter (is_for_dead v) (packet_letters v.shape (reach_of w) packet)) ≡ count_ones (dead_of v.threads (receivers v.shape packet.dest))
+dead_count w p a k v packet c fits here =
+    let t = tile_good w p a k v c in
+    let limits : WithinLimits v.shape = subst WithinLimits (sym t.shape) c.good.limits in
+    let m : ℕ = dead_of v.threads (receivers v.shape packet.dest) in
+    let low : m < 2 ^ tile_threads v.shape = let a = receivers_below v.shape v.tile packet.dest limits (and_parts _ _ fits).0 in let b = and_le_l (receivers v.shape packet.dest) (dead_in v.threads) in omega arith in
+    let n = ones_in (filter (is_for_dead v) (packet_letters v.shape (reach_of w) packet)) in
+    let b = dead_letters (λ _. 1) w p a k v packet c fits here in
+    let d = sum_same (λ j. cond (bit_at m j == 1) 1 0) (bit_at m) 0 (tile_threads v.shape) (λ j x y. bit_or_none (bit_at m j) (bit_cases m j)) in
+    let e = ones_are (tile_threads v.shape) m low in
+    omega arith
