@@ -11,11 +11,11 @@ use Rattle.tn_base.specs.declared.message.Packet.{Packet}
 use Rattle.tn_base.specs.declared.op.Op.{Op}
 use Rattle.tn_base.specs.declared.op.Op.TheVariants as op
 use Rattle.tn_base.specs.declared.shape.ShapeNumbers.{ShapeNumbers}
-use Rattle.tn_base.specs.Address.{has_thread, in_tile, place_in_tile, tile_of, tile_place, tile_threads}
+use Rattle.tn_base.specs.Address.{has_thread, has_tile, in_tile, place_in_tile, tile_of, tile_place, tile_threads}
 use Rattle.tn_base.specs.Parts.{tile_part}
 use Rattle.tn_base.specs.Shape.{WithinLimits}
 use Rattle.tn_base.proofs.TilePlaces.{place_named}
-use Rattle.tn_slots.specs.Pool.{Holds, held_by, key_for, key_in, left, queue_at, slot_at, taken, taken_from}
+use Rattle.tn_slots.specs.Pool.{Holds, held_by, key_for, key_in, left, queue_at, slot_at, taken_from}
 use Rattle.tn_slots.specs.Queues.{first_of}
 use Rattle.tn_slots.specs.Slot.{taken_slot}
 use Rattle.tn_slots.specs.WellKept.{WellKept}
@@ -50,12 +50,12 @@ use Rattle.tn_bag.proofs.Runs.{ForDead, discards, run_before, run_join, same_ref
 use Rattle.tn_bag.proofs.Slots.{freed_w, left_w, taken_w}
 use Rattle.tn_bag.proofs.Sums.{sum_one}
 use Rattle.tn_bag.proofs.Weights.{packet_w, same_bag, tile_w}
-use Rattle.std.proofs.Common.{ℕ, ◌+◌, ◌-◌, ◌*◌, ◌^◌, ◌<◌, ◌≤◌, ◌≡◌, ◌≢◌, ◌⊎◌, ◌==◌, Bool, true, false, cond, List, [], ◌∷◌, ◌++◌, length, get_or, set, map, zero, suc, refl, sym, ◌∙◌, ap, subst, inl, inr, arith, length-set, Option, Some, None, is_none, is_some, option_map, unwrap_or, MatchOption, IsTrue, length-append, sum_by}
+use Rattle.std.proofs.Common.{ℕ, ◌+◌, ◌-◌, ◌*◌, ◌^◌, ◌%◌, ◌<◌, ◌≤◌, ◌≡◌, ◌≢◌, ◌⊎◌, ◌==◌, Bool, true, false, cond, List, [], ◌∷◌, ◌++◌, length, get_or, set, map, zero, suc, refl, sym, ◌∙◌, ap, subst, inl, inr, arith, length-set, Option, Some, None, is_none, is_some, option_map, unwrap_or, MatchOption, IsTrue, length-append, sum_by}
 use Rattle.std.specs.Int.{bit_not, w64}
 use Rattle.std.specs.Int.RustNames.{count_ones}
 use Rattle.std.specs.Int.Bits.{bit_and}
 use Rattle.std.specs.List.{filter, flat_map}
-use Rattle.std.proofs.lemmas.Bool.{le-leb}
+use Rattle.std.proofs.lemmas.Bool.{le-leb, leb-true}
 use Rattle.std.proofs.lemmas.List.{get_or_default}
 use Rattle.std.proofs.lemmas.Nat.{and_le_l, and_le_r, pow_pos}
 use Rattle.std.proofs.Math.Nat.{pow-le-pow_right}
@@ -74,15 +74,16 @@ use Rattle.tn_slots.proofs.Lists.{bit_cases}
 use Rattle.tn_tile.specs.declared.buffers.Buffers.{Buffers}
 use Rattle.tn_tile.specs.declared.tile.Sender.{Sender}
 use Rattle.tn_tile.specs.Receivers.{alive_of, dead_in, dead_of, packed, receivers}
-use Rattle.tn_tile.specs.Rows.{buffer_at, counted, passed, passed_by, received, sent_on, stored, stored_at, with_buffer}
+use Rattle.tn_tile.specs.Rows.{buffer_at, counted, delivered_from, passed, passed_by, received, sent_on, stored, stored_at, with_buffer}
 use Rattle.tn_tile.proofs.Dead.{dead_at, dead_below, dead_bit}
 use Rattle.tn_tile.proofs.Packed.{one_place, packed_below}
 use Rattle.tn_tile.proofs.Packets.{packet_fits}
 use Rattle.tn_tile.proofs.Shaped.{FitsIn, notes_shaped, pending_shaped, put_shaped, transit_shaped}
 use Rattle.tn_bag.specs.Letters.{Reach, each_below, letter, only_if}
-use Rattle.tn_bag.specs.Steps.{is_for_dead}
+use Rattle.tn_tile.proofs.Steps.{taken}
+use Rattle.tn_bag.specs.Steps.{delivery_steps, dropped_at, is_for_dead}
 use Rattle.tn_bag.proofs.Holding.{no_sender, stored_held}
-use Rattle.tn_bag.proofs.Receivers.{both_sets, letters_here, ones_are, parted, place_letter}
+use Rattle.tn_bag.proofs.Receivers.{both_sets, letters_here, ones_are, parted, place_letter, router_away, thread_here, tile_here_is}
 use Rattle.tn_bag.proofs.Simulate.{Place, Reached, Sizes, address_is, dropped_after, quiet_bag, read, shown, sizes, tile_good}
 use Rattle.tn_bag.proofs.Slots.{slot_none, slot_replaced, slot_w}
 use Rattle.tn_bag.proofs.Sums.{sum_filter, sum_same, sum_two}
@@ -305,3 +306,182 @@ dead_count w p a k v packet c fits here =
     let d = sum_same (λ j. cond (bit_at m j == 1) 1 0) (bit_at m) 0 (tile_threads v.shape) (λ j x y. bit_or_none (bit_at m j) (bit_cases m j)) in
     let e = ones_are (tile_threads v.shape) m low in
     omega arith
+
+-- of each letter of a list
+abbrev pub Each : (Letter → Type 0) → List Letter → Type 0
+Each P [] = Unit {0}
+Each P (l ∷ ls) = P l × Each P ls
+
+each_only : (P : Letter → Type 0) (b : Bool) (l : Letter) (ls : List Letter) → P l → Each P ls → Each P (only_if b l ++ ls)
+each_only P true l ls h all = (h, all)
+each_only P false l ls h all = all
+
+each_range : (P : Letter → Type 0) (test : ℕ → Bool) (g : ℕ → Letter) (i n : ℕ) → ((k : ℕ) → i ≤ k → k < i + n → P (g k)) → Each P (flat_map (λ k. only_if (test k) (g k)) (range_with_len i n))
+each_range P test g i zero h = tt
+each_range P test g i (suc n) h =
+    each_only P (test i) (g i) (flat_map (λ k. only_if (test k) (g k)) (range_with_len (i + 1) n)) (h i (omega arith) (omega arith))
+    (each_range P test g (i + 1) n (λ k low high. h k (omega arith) (omega arith)))
+
+-- of each letter of a packet that stays on its tile
+each_here : (P : Letter → Type 0) (n : ShapeNumbers) (reach : Reach) (tile origin number : ℕ) (to : Dest) (bytes : List ℕ) → WithinLimits n → IsTrue (has_tile n tile) → IsTrue (has_dest n to) → tile_port tile to ≡ port.Here →
+    ((b : ℕ) → IsTrue (has_thread n b) → tile_of b ≡ tile → P (letter origin number b bytes)) → Each P (letters n reach origin number to bytes)
+each_here P n reach tile origin number (dest.Thread t) bytes limits there fits here all = (all t.0 fits (thread_here n tile t.0 there fits here), tt)
+each_here P n reach tile origin number dest.Host bytes limits there fits here all = absurd (router_away tile here)
+each_here P n reach tile origin number (dest.Key key) bytes limits there fits here all = absurd (router_away tile here)
+each_here P n reach tile origin number (dest.Mask at mask) bytes limits there fits here all =
+    subst (λ x. Each P (letters n reach origin number (dest.Mask (record { 0 = x }) mask) bytes)) (sym (tile_here_is n tile at.0 there (and_parts _ _ (and_parts _ _ fits).0).0 here))
+    (each_range P (λ k. bit_at mask (in_tile n tile k % 64) == 1) (λ k. letter origin number (in_tile n tile k) bytes) 0 (tile_threads n)
+    (λ k low high.
+    let below : k < tile_threads n = omega arith in
+    all (in_tile n tile k) (place_there n tile k limits there below) (place_back n tile k limits there below).0))
+
+by_test : (n : ShapeNumbers) (s : BagState) (l : Letter) (ls : List Letter) (b : Bool) → IsTrue (has_thread n l.receiver) → (b ≡ true → is_dead (s.threads l.receiver).state ≡ true) → ForDead n s ls → ForDead n s (cond b (l ∷ ls) ls)
+by_test n s l ls true there dead rest = (there, dead refl, rest)
+by_test n s l ls false there dead rest = rest
+
+-- a letter whose receiver has ended, if the tile says so
+abbrev pub DeadSo : ShapeNumbers → BagState → TileView → Letter → Type 0
+DeadSo n s v l = IsTrue (has_thread n l.receiver) × (is_for_dead v l ≡ true → is_dead (s.threads l.receiver).state ≡ true)
+
+for_dead : (n : ShapeNumbers) (s : BagState) (v : TileView) (ls : List Letter) → Each (DeadSo n s v) ls → ForDead n s (filter (is_for_dead v) ls)
+for_dead n s v [] all = tt
+for_dead n s v (l ∷ ls) all = by_test n s l (filter (is_for_dead v) ls) (is_for_dead v l) all.0.0 all.0.1 (for_dead n s v ls all.1)
+
+-- the letters of a packet that the tile drops are for threads that ended
+dropped_dead : (got : ℕ → List Letter) (dropped : List Letter) (w : WorldView) (p a k : ℕ) (v new : TileView) (packet : Packet) → Place w p v a k → IsTrue (has_packet v.shape packet) → tile_port v.tile packet.dest ≡ port.Here → new.threads ≡ v.threads →
+    ForDead w.shape (shown got dropped (with_tile w p new)) (filter (is_for_dead v) (packet_letters v.shape (reach_of w) packet))
+dropped_dead got dropped w p a k v new packet c fits here same =
+    let t = tile_good w p a k v c in
+    let limits : WithinLimits v.shape = subst WithinLimits (sym t.shape) c.good.limits in
+    let s : BagState = shown got dropped (with_tile w p new) in
+    for_dead w.shape s v (packet_letters v.shape (reach_of w) packet)
+    (each_here (DeadSo w.shape s v) v.shape (reach_of w) v.tile packet.origin packet.number packet.dest packet.bytes limits t.shaped.tile (and_parts _ _ fits).0 here
+    (λ b h on.
+    let there : IsTrue (has_thread w.shape b) = subst (λ n. IsTrue (has_thread n b)) t.shape h in
+    let near : part_for w b ≡ p = ap (λ x. tile_part (tile_place w.shape x)) on ∙ t.part in
+    let is : thread_of (with_tile w p new) b ≡ thread_at v (place_in_tile v.shape b) =
+        ap (λ x. thread_at x (place_in_tile w.shape b)) (tile_here w p new b c.on.within near)
+        ∙ (ap (λ ts. get_or ts (place_in_tile w.shape b) no_thread) same ∙ ap (λ n. thread_at v (place_in_tile n b)) (sym t.shape)) in
+    (there, λ dead. ap (λ (x : Thread). is_dead x.state) is ∙ dead)))
+
+here_drops : (w : WorldView) (p a k : ℕ) (v : TileView) (packet : Packet) (mid : TileView) → Place w p v a k → pending_at v k ≡ Some packet → tile_port v.tile packet.dest ≡ port.Here →
+    Stored w (alive_of v.threads (receivers v.shape packet.dest)) packet (taken_up v k) mid →
+    Drops w p v (record mid { dropped = mid.dropped + count_ones (dead_of v.threads (receivers v.shape packet.dest)) }) (filter (is_for_dead v) (packet_letters v.shape (reach_of w) packet))
+here_drops w p a k v packet mid c e here m =
+    let t = tile_good w p a k v c in
+    let z = sizes w p a k v c in
+    let limits : WithinLimits v.shape = subst WithinLimits (sym t.shape) c.good.limits in
+    let fits = packet_fits v k packet t.shaped e in
+    let to : ℕ = receivers v.shape packet.dest in
+    let l : ℕ → Letter = place_letter v.shape v.tile packet.origin packet.number packet.bytes in
+    let dead : ℕ = dead_in v.threads in
+    let few = z.few in
+    let low : dead < 2 ^ 64 = let n = t.shaped.threads in let b = dead_below v.threads in let most : length v.threads ≤ 64 = omega arith in let q : 2 ^ length v.threads ≤ 2 ^ 64 = pow-le-pow_right (omega arith) most in omega arith in
+    record {
+      weighs = λ f.
+          let x = pending_set f w v k None z.below z.pending in
+          let y : packet_w f v.shape (reach_of w) (pending_at v k) ≡ sum_by f (packet_letters v.shape (reach_of w) packet) = ap (packet_w f v.shape (reach_of w)) e in
+          let h = letters_here f v.shape (reach_of w) v.tile packet.origin packet.number packet.dest packet.bytes limits t.shaped.tile (and_parts _ _ fits).0 here in
+          let q = sum_two (λ j. cond (bit_at (bit_and to dead) j == 1) (f (l j)) 0) (λ j. cond (bit_at (bit_and to (bit_not w64 dead)) j == 1) (f (l j)) 0) (λ j. cond (bit_at to j == 1) (f (l j)) 0) 0 (tile_threads v.shape)
+              (λ j a b. parted to dead j (f (l j)) low (omega arith)) in
+          let d = dead_letters f w p a k v packet c fits here in
+          let s = m.weighs f in
+          omega arith;
+      holds = λ j. m.holds j;
+      threads = m.threads;
+      shape = m.shape;
+      tile = m.tile;
+      code = m.code;
+      shaped = notes_shaped mid (mid.dropped + count_ones (dead_of v.threads to)) mid.counter mid.black mid.held mid.ended m.shaped;
+      kept = m.kept;
+      dropped = let n = dead_count w p a k v packet c fits here in let d = m.dropped in omega arith;
+    }
+
+-- ---- a delivery
+
+-- what a delivery makes of the tile, and what it drops
+pub record Delivers (w : WorldView) (p : ℕ) (v new : TileView) (ls : List Letter) : Type 0 where
+  pub drops : Drops w p v new ls
+  pub dead : (got : ℕ → List Letter) (dropped : List Letter) → ForDead w.shape (shown got dropped (with_tile w p new)) ls
+
+on_delivers : (w : WorldView) (p a k : ℕ) (v new : TileView) (packet : Packet) (way : Port) → Place w p v a k → pending_at v k ≡ Some packet → IsOut way → sent_on way packet (taken_up v k) ≡ Some new → Delivers w p v new []
+on_delivers w p a k v new packet way c e out is =
+    let yes = taken (is_none (buffer_at way v.transit)) (Some (record (taken_up v k) { transit = with_buffer way (Some packet) v.transit })) new is in
+    let made : TileView = record (taken_up v k) { transit = with_buffer way (Some packet) v.transit } in
+    let same : made ≡ new = ap (λ (o : Option TileView). unwrap_or o new) yes.1 in
+    subst (λ x. Delivers w p v x []) same (record {
+      drops = on_drops w p a k v packet way c e out (none_from (buffer_at way v.transit) yes.0);
+      dead = λ got dropped. tt;
+    })
+
+counted_is : (n : ℕ) (o : Option TileView) (new : TileView) → counted n o ≡ Some new → (mid : TileView) × (o ≡ Some mid) × (new ≡ record mid { dropped = mid.dropped + n })
+counted_is n None new is = cc is
+counted_is n (Some mid) new is = (mid, refl, sym (ap (λ (o : Option TileView). unwrap_or o new) is))
+
+here_delivers : (w : WorldView) (p a k : ℕ) (v new : TileView) (packet : Packet) → Place w p v a k → pending_at v k ≡ Some packet → tile_port v.tile packet.dest ≡ port.Here → received packet (taken_up v k) ≡ Some new →
+    Delivers w p v new (filter (is_for_dead v) (packet_letters v.shape (reach_of w) packet))
+here_delivers w p a k v new packet c e here is =
+    let t = tile_good w p a k v c in
+    let limits : WithinLimits v.shape = subst WithinLimits (sym t.shape) c.good.limits in
+    let fits = packet_fits v k packet t.shaped e in
+    let to : ℕ = receivers v.shape packet.dest in
+    let alive : ℕ = alive_of v.threads to in
+    let count : ℕ = count_ones (dead_of v.threads to) in
+    let m = counted_is count (stored alive packet (taken_up v k)) new is in
+    let low : alive < 2 ^ length v.pool.queues =
+        let x = receivers_below v.shape v.tile packet.dest limits (and_parts _ _ fits).0 in
+        let y = and_le_l to (bit_not w64 (dead_in v.threads)) in
+        let q : 2 ^ length v.pool.queues ≡ 2 ^ tile_threads v.shape = ap (λ n. 2 ^ n) t.shaped.queues in
+        omega arith in
+    let short : length packet.bytes ≤ v.pool.slot_bytes = let x : length packet.bytes ≤ slot_bytes v.shape = leb-true _ _ (and_parts _ _ fits).1 in let y : v.pool.slot_bytes ≡ slot_bytes v.shape = t.shaped.slot_bytes in omega arith in
+    let s : Stored w alive packet (taken_up v k) m.0 = stored_is w alive packet (taken_up v k) m.0 (alive == 0) refl (pending_shaped v k None tt t.shaped) t.kept low short m.1 in
+    subst (λ x. Delivers w p v x (filter (is_for_dead v) (packet_letters v.shape (reach_of w) packet))) (sym m.2) (record {
+      drops = here_drops w p a k v packet m.0 c e here s;
+      dead = λ got dropped. dropped_dead got dropped w p a k v (record m.0 { dropped = m.0.dropped + count }) packet c fits here s.threads;
+    })
+
+-- the letters that a packet drops on its way from the tile
+abbrev pub dropped_on_way : Port → WorldView → Packet → TileView → List Letter
+dropped_on_way port.Here w packet v = filter (is_for_dead v) (packet_letters v.shape (reach_of w) packet)
+dropped_on_way port.East w packet v = []
+dropped_on_way port.West w packet v = []
+dropped_on_way port.South w packet v = []
+dropped_on_way port.North w packet v = []
+dropped_on_way port.Up w packet v = []
+dropped_on_way port.Down w packet v = []
+dropped_on_way port.HostPort w packet v = []
+
+way_delivers : (w : WorldView) (p a k : ℕ) (v new : TileView) (packet : Packet) (way : Port) → Place w p v a k → pending_at v k ≡ Some packet → tile_port v.tile packet.dest ≡ way → passed_by way packet (taken_up v k) ≡ Some new →
+    Delivers w p v new (dropped_on_way way w packet v)
+way_delivers w p a k v new packet port.Here c e at is = here_delivers w p a k v new packet c e at is
+way_delivers w p a k v new packet port.East c e at is = on_delivers w p a k v new packet port.East c e tt is
+way_delivers w p a k v new packet port.West c e at is = on_delivers w p a k v new packet port.West c e tt is
+way_delivers w p a k v new packet port.South c e at is = on_delivers w p a k v new packet port.South c e tt is
+way_delivers w p a k v new packet port.North c e at is = on_delivers w p a k v new packet port.North c e tt is
+way_delivers w p a k v new packet port.Up c e at is = on_delivers w p a k v new packet port.Up c e tt is
+way_delivers w p a k v new packet port.Down c e at is = cc is
+way_delivers w p a k v new packet port.HostPort c e at is = cc is
+
+-- as steps of the bag machine
+discards_are : (way : Port) (w : WorldView) (packet : Packet) (v : TileView) → map bag.Discard (dropped_on_way way w packet v) ≡ dropped_at way (reach_of w) packet v
+discards_are port.Here w packet v = refl
+discards_are port.East w packet v = refl
+discards_are port.West w packet v = refl
+discards_are port.South w packet v = refl
+discards_are port.North w packet v = refl
+discards_are port.Up w packet v = refl
+discards_are port.Down w packet v = refl
+discards_are port.HostPort w packet v = refl
+
+delivery_by : (got : ℕ → List Letter) (dropped : List Letter) (w : WorldView) (p a k : ℕ) (v new : TileView) (o : Option Packet) → Place w p v a k → pending_at v k ≡ o → delivered_from k o v ≡ Some new →
+    Reached got dropped w (delivery_steps (reach_of w) o v) (with_tile w p new)
+delivery_by got dropped w p a k v new None c e is = cc is
+delivery_by got dropped w p a k v new (Some packet) c e is =
+    let way : Port = tile_port v.tile packet.dest in
+    let d = way_delivers w p a k v new packet way c e refl is in
+    subst (λ (steps : List BagStep). Reached got dropped w steps (with_tile w p new)) (discards_are way w packet v)
+    (drops_reached got dropped w p v new (dropped_on_way way w packet v) c.good c.on d.drops (d.dead got dropped))
+
+pub delivery_reached : (got : ℕ → List Letter) (dropped : List Letter) (w : WorldView) (p a k : ℕ) (v new : TileView) → Place w p v a k → delivered_from k (pending_at v k) v ≡ Some new →
+    Reached got dropped w (delivery_steps (reach_of w) (pending_at v k) v) (with_tile w p new)
+delivery_reached got dropped w p a k v new c is = delivery_by got dropped w p a k v new (pending_at v k) c refl is

@@ -9,3 +9,4 @@ pub mod Simulate
 pub mod Threads
 pub mod Receivers
 pub mod Delivery
+pub mod Walks

@@ -101,7 +101,7 @@ away x y to_x to_y end not =
     (λ _. cond_both (ltb y to_y) _ _ (λ p. p ≡ port.Here → ⊥) (λ _ e. cc e)
     (λ _. cond_both (ltb to_y y) _ _ (λ p. p ≡ port.Here → ⊥) (λ _ e. cc e) (λ _. not))))
 
-router_away : (a : ℕ) → to_router a ≡ port.Here → ⊥
+pub router_away : (a : ℕ) → to_router a ≡ port.Here → ⊥
 router_away a = away (tile_x a) (tile_y a) 0 0 port.Up (λ e. cc e)
 
 not_less : (x y : ℕ) → ltb x y ≡ false → ltb y x ≡ false → x ≡ y
@@ -143,6 +143,18 @@ thread_below n a h = grind (arith, nat_tests)
 tile_below : (n : ShapeNumbers) (a : ℕ) → IsTrue (has_tile n a) → (a < 16384) × (a % 64 ≡ 0)
 tile_below n a h = (grind (arith, nat_tests), grind (arith, nat_tests))
 
+-- a thread that a packet reaches here is on the tile, and so is the tile of a mask
+pub thread_here : (n : ShapeNumbers) (tile t : ℕ) → IsTrue (has_tile n tile) → IsTrue (has_thread n t) → to_tile tile t ≡ port.Here → tile_of t ≡ tile
+thread_here n tile t there h e = let low = tile_below n tile there in fields_meet tile t low.0 (thread_below n t h) low.1 (on_tile tile t e)
+
+pub tile_here_is : (n : ShapeNumbers) (tile at : ℕ) → IsTrue (has_tile n tile) → IsTrue (has_tile n at) → to_tile tile at ≡ port.Here → at ≡ tile
+tile_here_is n tile at there h e =
+    let low = tile_below n tile there in
+    let other = tile_below n at h in
+    let on : tile_of at ≡ tile = fields_meet tile at low.0 other.0 low.1 (on_tile tile at e) in
+    let whole = other.1 in
+    omega arith
+
 -- what the packet is for the thread at a place
 abbrev pub place_letter : ShapeNumbers → ℕ → ℕ → ℕ → List ℕ → ℕ → Letter
 place_letter n tile origin number bytes k = letter origin number (in_tile n tile k) bytes
@@ -151,8 +163,7 @@ place_letter n tile origin number bytes k = letter origin number (in_tile n tile
 pub letters_here : (f : Letter → ℕ) (n : ShapeNumbers) (reach : Reach) (tile origin number : ℕ) (to : Dest) (bytes : List ℕ) → WithinLimits n → IsTrue (has_tile n tile) → IsTrue (has_dest n to) → tile_port tile to ≡ port.Here →
     sum_by f (letters n reach origin number to bytes) ≡ sum_by (λ k. cond (bit_at (receivers n to) k == 1) (f (place_letter n tile origin number bytes k)) 0) (range_with_len 0 (tile_threads n))
 letters_here f n reach tile origin number (dest.Thread t) bytes limits there fits here =
-    let low = tile_below n tile there in
-    let on : tile_of t.0 ≡ tile = fields_meet tile t.0 low.0 (thread_below n t.0 fits) low.1 (on_tile tile t.0 here) in
+    let on : tile_of t.0 ≡ tile = thread_here n tile t.0 there fits here in
     let k : ℕ = place_in_tile n t.0 in
     let at : in_tile n tile k ≡ t.0 = ap (λ x. in_tile n x k) (sym on) ∙ place_named n t.0 fits in
     let one = sum_single (λ j. cond (bit_at (2 ^ k) j == 1) (f (place_letter n tile origin number bytes j)) 0) (tile_threads n) k (place_below n t.0 fits)
@@ -164,12 +175,8 @@ letters_here f n reach tile origin number (dest.Thread t) bytes limits there fit
 letters_here f n reach tile origin number dest.Host bytes limits there fits here = absurd (router_away tile here)
 letters_here f n reach tile origin number (dest.Key key) bytes limits there fits here = absurd (router_away tile here)
 letters_here f n reach tile origin number (dest.Mask at mask) bytes limits there fits here =
-    let low = tile_below n tile there in
     let parts = and_parts _ _ fits in
-    let has = and_parts _ _ parts.0 in
-    let other = tile_below n at.0 has.0 in
-    let on : tile_of at.0 ≡ tile = fields_meet tile at.0 low.0 other.0 low.1 (on_tile tile at.0 here) in
-    let same : at.0 ≡ tile = let e = other.1 in omega arith in
+    let same : at.0 ≡ tile = tile_here_is n tile at.0 there (and_parts _ _ parts.0).0 here in
     ap (λ x. sum_by f (letters n reach origin number (dest.Mask (record { 0 = x }) mask) bytes)) same
     ∙ (sum_below f (tile_threads n) (λ k. only_if (bit_at mask (in_tile n tile k % 64) == 1) (place_letter n tile origin number bytes k))
     ∙ sum_same _ (λ k. cond (bit_at (packed n mask) k == 1) (f (place_letter n tile origin number bytes k)) 0) 0 (tile_threads n)
