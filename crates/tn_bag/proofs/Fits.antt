@@ -1,5 +1,5 @@
 -- A thread's step keeps what it must, and asks only for what it may.
-use Rattle.std.proofs.Common.{ℕ, ◌+◌, ◌/◌, ◌≡◌, Bool, true, false, cond, List, length, refl, sym, ◌∙◌, ap, subst, Option, Some, None}
+use Rattle.std.proofs.Common.{ℕ, ◌/◌, ◌≡◌, true, List, refl, Option, Some, None}
 use Rattle.std.specs.List.{slice_get}
 use Rattle.rv_isa.specs.declared.instr.Instr.{Instr}
 use Rattle.tn_base.specs.declared.effect.Effect.{Effect}
@@ -12,7 +12,7 @@ use Rattle.tn_thread.specs.declared.state.ThreadState.TheVariants as state
 use Rattle.tn_thread.specs.declared.thread.Thread.{Thread}
 use Rattle.tn_thread.specs.Fits.{OpFits, StepFits}
 use Rattle.tn_thread.specs.Sight.{Sight}
-use Rattle.tn_thread.specs.Step.{Stepped, runnable, stepped, turned}
+use Rattle.tn_thread.specs.Step.{Stepped, runnable, turned}
 use Rattle.tn_thread.proofs.Fits.{resumed_fits, stepped_fits, turned_resumes, turned_runs}
 use Rattle.tn_tile.specs.Step.{Fetched, executed, fetched_at, fetched_by, next_step}
 

@@ -1,16 +1,15 @@
 -- What each change of a slot does to what the threads of the tile hold.
-use Rattle.std.proofs.Common.{ℕ, ◌+◌, ◌<◌, ◌≤◌, ◌≡◌, ◌≢◌, ◌==◌, Bool, true, false, cond, List, [], ◌∷◌, length, get_or, set, map, zero, suc, refl, sym, ◌∙◌, ap, subst, inl, inr, arith, Option, Some, None}
+use Rattle.std.proofs.Common.{ℕ, ◌<◌, ◌≡◌, ◌≢◌, ◌==◌, true, cond, List, [], ◌∷◌, length, get_or, set, map, zero, suc, refl, sym, ◌∙◌, ap, inl, inr, Option, Some, None}
 use Rattle.std.specs.Int.{bit_at}
 use Rattle.std.proofs.lemmas.Bool.{cases_eq, eq-eqb, ne_eqb}
 use Rattle.std.proofs.lemmas.List.{get_or-set_same, get_or-set_other}
 use Rattle.std.proofs.lemmas.Nat.Bits.{bit_at-zero}
 use Rattle.tn_base.specs.declared.message.Letter.{Letter}
-use Rattle.tn_base.specs.Address.{in_tile, tile_threads}
 use Rattle.tn_base.proofs.Masks.{with_same, with_other, without_same, without_other}
 use Rattle.tn_slots.specs.declared.slot.Slot.{Slot}
-use Rattle.tn_slots.specs.Pool.{Holds, slot_at}
+use Rattle.tn_slots.specs.Pool.{slot_at}
 use Rattle.tn_slots.specs.Slot.{empty_slot, freed_slot, is_free, left_slot, taken_slot}
-use Rattle.tn_slots.proofs.Kept.{free_masks, held_within, owed_within}
+use Rattle.tn_slots.proofs.Kept.{free_masks}
 use Rattle.tn_tile.specs.declared.tile.Sender.{Sender}
 use Rattle.tn_tile.specs.TileView.{TileView}
 use Rattle.tn_bag.specs.State.{put}

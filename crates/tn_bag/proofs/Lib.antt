@@ -9,4 +9,6 @@ pub mod Simulate
 pub mod Threads
 pub mod Receivers
 pub mod Delivery
+pub mod PartKinds
 pub mod Walks
+pub mod Starts

@@ -1,5 +1,5 @@
 -- From one tile of a machine to the whole machine.
-use Rattle.std.proofs.Common.{ℕ, ◌+◌, ◌<◌, ◌≤◌, ◌≡◌, ◌≢◌, ◌==◌, Bool, true, cond, List, [], ◌∷◌, length, get_or, set, zero, suc, refl, sym, ◌∙◌, ap, subst, inl, inr, arith, length-set, Option, Some, None, IsTrue, sum_by}
+use Rattle.std.proofs.Common.{ℕ, ◌+◌, ◌<◌, ◌≡◌, ◌≢◌, cond, List, [], ◌∷◌, length, get_or, set, zero, suc, refl, sym, ◌∙◌, ap, subst, inl, inr, arith, length-set, IsTrue, sum_by}
 use Rattle.std.specs.List.{range_with_len}
 use Rattle.std.proofs.lemmas.Bool.{cases_eq, eq-eqb, ne_eqb}
 use Rattle.std.proofs.lemmas.List.{get_or-set_same, get_or-set_other}
@@ -12,7 +12,7 @@ use Rattle.tn_base.proofs.TilePlaces.{fields, place_below, place_named, tile_fou
 use Rattle.tn_slots.specs.WellKept.{WellKept}
 use Rattle.tn_tile.specs.Kept.{WellShaped}
 use Rattle.tn_tile.specs.TileView.{TileView}
-use Rattle.tn_rows.specs.PartView.{PartView, TileV, AbsentV}
+use Rattle.tn_rows.specs.PartView.{TileV, AbsentV}
 use Rattle.tn_rows.specs.WorldView.{WorldView}
 use Rattle.tn_bag.specs.Standing.{standing_letters}
 use Rattle.tn_bag.specs.State.{put}

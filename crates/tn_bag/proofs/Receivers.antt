@@ -1,16 +1,16 @@
 -- The letters of a packet whose receivers are on one tile, place by place: those that are alive, and those that ended.
-use Rattle.std.proofs.Common.{ℕ, ◌+◌, ◌-◌, ◌*◌, ◌/◌, ◌%◌, ◌^◌, ◌<◌, ◌≤◌, ◌≡◌, ◌≢◌, ◌⊎◌, ◌==◌, ◌&&◌, Bool, true, false, cond, List, [], ◌∷◌, length, get_or, zero, suc, refl, sym, ◌∙◌, ap, subst, inl, inr, arith, IsTrue, sum_by, ltb, min}
+use Rattle.std.proofs.Common.{ℕ, ◌+◌, ◌-◌, ◌*◌, ◌/◌, ◌%◌, ◌^◌, ◌<◌, ◌≡◌, ◌⊎◌, ◌==◌, Bool, true, false, cond, List, [], zero, suc, refl, sym, ◌∙◌, ap, inl, inr, arith, IsTrue, sum_by, ltb, min}
 use Rattle.std.specs.Int.{bit_at, bit_not, w64}
 use Rattle.std.specs.Int.RustNames.{count_ones}
 use Rattle.std.specs.Int.Bits.{bit_and}
-use Rattle.std.specs.List.{filter, range_with_len}
+use Rattle.std.specs.List.{range_with_len}
 use lib.Count.{ones}
 use Rattle.std.proofs.Math.Nat.{pow-suc}
-use Rattle.std.proofs.lemmas.Bool.{and_parts, cases_eq, cond_both, eq-eqb, eqb-true, ne_eqb}
+use Rattle.std.proofs.lemmas.Bool.{and_parts, cond_both, eq-eqb, eqb-true}
 use Rattle.std.proofs.lemmas.Bool.Decides.{nat_tests}
 use Rattle.std.proofs.lemmas.List.Sums.{sum_by-cons}
 use Rattle.std.proofs.lemmas.Nat.{ones_cat}
-use Rattle.std.proofs.lemmas.Nat.Bits.{bit_at-zero, bit_at-pow_same, bit_at-pow_other, bit_at-suc, bit_at_and, bit_at_lowest, bit_at_not}
+use Rattle.std.proofs.lemmas.Nat.Bits.{bit_at-pow_same, bit_at-pow_other, bit_at-suc, bit_at_and, bit_at_lowest, bit_at_not}
 use Rattle.tn_base.specs.declared.message.Dest.{Dest}
 use Rattle.tn_base.specs.declared.message.Dest.TheVariants as dest
 use Rattle.tn_base.specs.declared.message.Letter.{Letter}
@@ -26,7 +26,7 @@ use Rattle.tn_slots.proofs.Lists.{bit_cases}
 use Rattle.tn_tile.specs.Receivers.{packed, receivers}
 use Rattle.tn_tile.proofs.Packed.{receiver_bit}
 use Rattle.tn_bag.specs.Letters.{Reach, letter, letters, only_if}
-use Rattle.tn_bag.proofs.Sums.{sum_below, sum_none, sum_only, sum_same, sum_single, sum_two}
+use Rattle.tn_bag.proofs.Sums.{sum_below, sum_only, sum_same, sum_single}
 
 -- ---- bits
 

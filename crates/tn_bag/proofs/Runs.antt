@@ -1,12 +1,11 @@
 -- Runs of the bag machine: joined, begun at a state that is the same, and letters that are dropped one after another.
-use Rattle.std.proofs.Common.{ℕ, ◌+◌, ◌≡◌, Bool, true, false, List, [], ◌∷◌, ◌++◌, map, refl, sym, ◌∙◌, ap, subst, IsTrue, append-nil}
+use Rattle.std.proofs.Common.{◌≡◌, true, List, [], ◌∷◌, ◌++◌, map, refl, sym, ◌∙◌, ap, subst, IsTrue, append-nil}
 use Rattle.tn_base.specs.declared.message.Letter.{Letter}
 use Rattle.tn_base.specs.declared.shape.ShapeNumbers.{ShapeNumbers}
 use Rattle.tn_base.specs.Address.{has_thread}
 use Rattle.tn_tile.specs.Receivers.{is_dead}
 use Rattle.tn_bag.specs.declared.steps.BagStep.{BagStep}
 use Rattle.tn_bag.specs.declared.steps.BagStep.TheVariants as bag
-use Rattle.tn_bag.specs.Letters.{SameBag}
 use Rattle.tn_bag.specs.Machine.{BagRun}
 use Rattle.tn_bag.specs.State.{BagState, Program, Same}
 

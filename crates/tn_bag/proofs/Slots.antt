@@ -1,30 +1,29 @@
 -- What each change of a slot does to the letters that stand in it, and to those that threads hold there.
-use Rattle.std.proofs.Common.{ℕ, ◌+◌, ◌*◌, ◌<◌, ◌≤◌, ◌≡◌, ◌≢◌, ◌⊎◌, ◌==◌, Bool, true, false, cond, List, [], ◌∷◌, length, get_or, set, map, zero, suc, refl, sym, ◌∙◌, ap, subst, inl, inr, arith, length-set, Option, Some, None, sum_by}
+use Rattle.std.proofs.Common.{ℕ, ◌+◌, ◌*◌, ◌<◌, ◌≤◌, ◌≡◌, ◌≢◌, ◌⊎◌, ◌==◌, cond, List, [], ◌∷◌, length, get_or, set, map, suc, refl, sym, ◌∙◌, ap, inl, inr, arith, length-set, sum_by}
 use Rattle.std.specs.Int.{bit_at}
 use Rattle.std.specs.List.{range_with_len}
 use Rattle.std.proofs.Math.Nat.{suc-mul}
-use Rattle.std.proofs.lemmas.Bool.{cases_eq, cases_lt, eq-eqb, ne_eqb}
+use Rattle.std.proofs.lemmas.Bool.{cases_lt, eq-eqb}
 use Rattle.std.proofs.lemmas.List.{get_or-map, get_or-set_same, get_or-set_other, length-map}
 use Rattle.std.proofs.lemmas.List.Sums.{sum_by-cons}
 use Rattle.std.proofs.lemmas.Nat.Bits.{bit_at-zero}
 use Rattle.tn_base.specs.declared.message.Letter.{Letter}
 use Rattle.tn_base.specs.Address.{in_tile, tile_threads}
-use Rattle.tn_base.specs.Mask.{with_bit, without_bit}
-use Rattle.tn_base.proofs.Masks.{with_same, with_other, without_same, without_other}
+use Rattle.tn_base.specs.Mask.{without_bit}
+use Rattle.tn_base.proofs.Masks.{without_same, without_other}
 use Rattle.tn_slots.specs.declared.slot.Slot.{Slot}
 use Rattle.tn_slots.specs.Pool.{queue_at, slot_at}
-use Rattle.tn_slots.specs.Slot.{empty_slot, freed_slot, is_free, left_slot, taken_slot}
+use Rattle.tn_slots.specs.Slot.{empty_slot, freed_slot, left_slot, taken_slot}
 use Rattle.tn_slots.specs.WellKept.{WellKept, times}
-use Rattle.tn_slots.proofs.Kept.{free_masks, owed_within}
+use Rattle.tn_slots.proofs.Kept.{owed_within}
 use Rattle.tn_slots.proofs.Lists.{bit_cases, times-cons, times_first, times_other}
 use Rattle.tn_tile.specs.declared.tile.Sender.{Sender}
 use Rattle.tn_tile.specs.TileView.{TileView}
 use Rattle.tn_bag.specs.Letters.{letter}
-use Rattle.tn_bag.specs.State.{put}
 use Rattle.tn_bag.specs.Steps.{queued}
-use Rattle.tn_bag.specs.Tiles.{held_in, letter_in, sender_at}
+use Rattle.tn_bag.specs.Tiles.{letter_in, sender_at}
 use Rattle.tn_bag.proofs.Sums.{sum_map, sum_none, sum_one, sum_same, sum_two}
-use Rattle.tn_bag.proofs.Weights.{owed_w, slots_w}
+use Rattle.tn_bag.proofs.Weights.{slots_w}
 
 -- the letter that a slot of this content, whose packet is of this sender, has for the thread at a place
 abbrev pub letter_of : TileView → Sender → List ℕ → ℕ → Letter

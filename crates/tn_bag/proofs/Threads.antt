@@ -1,10 +1,9 @@
 -- Each step of a thread, by what it asks for.
-use Rattle.std.proofs.Common.{ℕ, ◌+◌, ◌<◌, ◌≤◌, ◌≡◌, ◌≢◌, ◌==◌, Bool, true, false, cond, List, [], ◌∷◌, ◌++◌, length, get_or, set, map, zero, suc, refl, sym, ◌∙◌, ap, subst, inl, inr, arith, length-set, Option, Some, None, is_none, is_some, option_map, unwrap_or, MatchOption, IsTrue, length-append, sum_by}
+use Rattle.std.proofs.Common.{ℕ, ◌+◌, ◌<◌, ◌≡◌, ◌==◌, Bool, true, false, cond, List, [], ◌∷◌, ◌++◌, length, get_or, set, map, refl, sym, ◌∙◌, ap, subst, arith, Option, Some, None, is_none, is_some, option_map, unwrap_or, IsTrue, length-append, sum_by}
 use Rattle.std.specs.Int.{bit_at}
-use Rattle.std.specs.List.{range_with_len}
-use Rattle.std.proofs.lemmas.Bool.{and_parts, cases_eq, eq-eqb, eqb-true, ltb-true, ne_eqb}
+use Rattle.std.proofs.lemmas.Bool.{eq-eqb, eqb-true}
 use Rattle.std.proofs.lemmas.List.{get_or-set_same, get_or-set_other, length-map}
-use Rattle.std.proofs.lemmas.List.Sums.{sum_by-append, sum_by-cons, sum_by-set}
+use Rattle.std.proofs.lemmas.List.Sums.{sum_by-append}
 use Rattle.tn_base.specs.declared.ids.ThreadId.{ThreadId}
 use Rattle.tn_base.specs.declared.message.Dest.{Dest}
 use Rattle.tn_base.specs.declared.message.Letter.{Letter}
@@ -12,46 +11,32 @@ use Rattle.tn_base.specs.declared.message.Packet.{Packet}
 use Rattle.tn_base.specs.declared.op.Op.{Op}
 use Rattle.tn_base.specs.declared.op.Op.TheVariants as op
 use Rattle.tn_base.specs.declared.shape.ShapeNumbers.{ShapeNumbers}
-use Rattle.tn_base.specs.Address.{has_thread, in_tile, place_in_tile, tile_of, tile_place, tile_threads}
-use Rattle.tn_base.specs.Parts.{tile_part}
-use Rattle.tn_base.specs.Shape.{WithinLimits}
-use Rattle.tn_base.proofs.TilePlaces.{place_named}
-use Rattle.tn_slots.specs.Pool.{Holds, held_by, key_for, key_in, left, queue_at, slot_at, taken, taken_from}
+use Rattle.tn_base.specs.Address.{has_thread, in_tile, tile_threads}
+use Rattle.tn_slots.specs.Pool.{Holds, held_by, key_in, queue_at, slot_at, taken_from}
 use Rattle.tn_slots.specs.Queues.{first_of}
-use Rattle.tn_slots.specs.Slot.{taken_slot}
-use Rattle.tn_slots.specs.WellKept.{WellKept}
 use Rattle.tn_slots.proofs.Kept.{first_owed, freed_kept, held_within, left_kept, owed_within, taken_kept}
-use Rattle.tn_thread.specs.declared.state.ThreadState.TheVariants as state
 use Rattle.tn_thread.specs.declared.thread.Thread.{Thread}
-use Rattle.tn_thread.specs.Fits.{OpFits, StepFits}
-use Rattle.tn_thread.specs.Sight.{Sight}
-use Rattle.tn_thread.specs.Step.{Stepped, runnable}
+use Rattle.tn_thread.specs.Step.{Stepped}
 use Rattle.tn_tile.specs.Kept.{WellShaped}
 use Rattle.tn_tile.specs.Receivers.{is_dead}
-use Rattle.tn_tile.specs.Step.{acted, can_step, next_step, no_thread, pending_at, sight_at, step_at_place, stepped, thread_at, with_thread}
+use Rattle.tn_tile.specs.Step.{can_step, pending_at, step_at_place, stepped, thread_at, with_thread}
 use Rattle.tn_tile.specs.TileView.{TileView}
-use Rattle.tn_tile.proofs.Packed.{few_places}
-use Rattle.tn_tile.proofs.Shaped.{step_shaped}
-use Rattle.tn_rows.specs.PartView.{PartView, TileV, AbsentV}
 use Rattle.tn_rows.specs.WorldView.{WorldView}
 use Rattle.tn_bag.specs.declared.steps.BagStep.{BagStep}
 use Rattle.tn_bag.specs.declared.steps.BagStep.TheVariants as bag
-use Rattle.tn_bag.specs.declared.steps.Seen.{Seen}
-use Rattle.tn_bag.specs.Law.{dropped_in, dropped_on}
-use Rattle.tn_bag.specs.Letters.{SameBag, Takes, letters, packet_letters}
-use Rattle.tn_bag.specs.Machine.{Allows, BagRun, Happens, IsAllowed, IsPrivate, MayStandFirst, MayStep, SamePacket, ended_by, freed, handed, own_step, sent_by, sight, with_own_step}
-use Rattle.tn_bag.specs.Standing.{bag_at, standing_letters}
-use Rattle.tn_bag.specs.State.{Agree, BagState, Program, Same, put}
+use Rattle.tn_bag.specs.Letters.{letters, packet_letters}
+use Rattle.tn_bag.specs.Machine.{IsPrivate, ended_by, freed, handed, own_step, sent_by, with_own_step}
+use Rattle.tn_bag.specs.Standing.{standing_letters}
+use Rattle.tn_bag.specs.State.{BagState, put}
 use Rattle.tn_bag.specs.Steps.{dropped_by, first_letter, queued, seen_at, step_by, thread_step}
-use Rattle.tn_bag.specs.Tiles.{held_in, held_of, letter_in, part_for, program_of, reach_of, sender_at, thread_of, tile_for}
-use Rattle.tn_bag.proofs.Fits.{next_fits}
+use Rattle.tn_bag.specs.Tiles.{held_in, held_of, letter_in, program_of, reach_of, thread_of}
 use Rattle.tn_bag.proofs.Holding.{freed_here, freed_others, left_here, left_others, taken_here, taken_others}
-use Rattle.tn_bag.proofs.Lift.{Good, GoodTile, On, Stands, good_lift, lift_put, lift_same, on_new, part_is, place_within, program_stays, tile_here, tile_is, tile_stands, with_tile}
-use Rattle.tn_bag.proofs.Runs.{ForDead, discards, run_before, run_join, same_refl}
-use Rattle.tn_bag.proofs.Slots.{freed_w, left_w, taken_w}
+use Rattle.tn_bag.proofs.Lift.{good_lift, lift_put, lift_same, program_stays, tile_stands, with_tile}
+use Rattle.tn_bag.proofs.Runs.{ForDead, discards, run_before, same_refl}
+use Rattle.tn_bag.proofs.Slots.{freed_w, left_w}
 use Rattle.tn_bag.proofs.Sums.{sum_one}
 use Rattle.tn_bag.proofs.Weights.{packet_w, same_bag, tile_w}
-use Rattle.tn_bag.proofs.Simulate.{Place, Reached, Sizes, address_is, dropped_after, first_leaves, first_stands, may_step, next, op_fits, own_is, own_op, plain, quiet_bag, read, shaped_after, shown, sizes, step_fits, threads_after, tile_good}
+use Rattle.tn_bag.proofs.Simulate.{Place, Reached, address_is, dropped_after, first_leaves, first_stands, may_step, next, op_fits, own_is, own_op, plain, quiet_bag, read, shaped_after, shown, sizes, threads_after, tile_good}
 
 none_from : (o : Option Packet) → is_none o ≡ true → o ≡ None
 none_from None e = refl

@@ -1,70 +1,35 @@
 -- Events and whole runs.
-use Rattle.std.specs.Int.{bit_at}
-use Rattle.std.specs.List.{range_with_len}
-use Rattle.std.proofs.lemmas.Bool.{and_parts, cases_eq, eq-eqb, eqb-true, ltb-true, ne_eqb}
-use Rattle.std.proofs.lemmas.List.{get_or-set_same, get_or-set_other, length-map}
-use Rattle.std.proofs.lemmas.List.Sums.{sum_by-append, sum_by-cons, sum_by-set}
-use Rattle.tn_base.specs.declared.ids.ThreadId.{ThreadId}
-use Rattle.tn_base.specs.declared.message.Dest.{Dest}
+use Rattle.std.proofs.lemmas.Bool.{and_parts, eqb-true}
 use Rattle.tn_base.specs.declared.message.Letter.{Letter}
-use Rattle.tn_base.specs.declared.message.Packet.{Packet}
 use Rattle.tn_base.specs.declared.op.Op.{Op}
 use Rattle.tn_base.specs.declared.op.Op.TheVariants as op
-use Rattle.tn_base.specs.declared.shape.ShapeNumbers.{ShapeNumbers}
-use Rattle.tn_base.specs.Address.{has_thread, in_tile, place_in_tile, tile_of, tile_place, tile_threads}
-use Rattle.tn_base.specs.Parts.{tile_part}
-use Rattle.tn_base.specs.Shape.{WithinLimits}
-use Rattle.tn_base.proofs.TilePlaces.{place_named}
-use Rattle.tn_slots.specs.Pool.{Holds, held_by, key_for, key_in, left, queue_at, slot_at, taken_from}
-use Rattle.tn_slots.specs.Queues.{first_of}
-use Rattle.tn_slots.specs.Slot.{taken_slot}
-use Rattle.tn_slots.specs.WellKept.{WellKept}
-use Rattle.tn_slots.proofs.Kept.{first_owed, freed_kept, held_within, left_kept, owed_within, taken_kept}
-use Rattle.tn_thread.specs.declared.state.ThreadState.TheVariants as state
+use Rattle.tn_base.specs.Address.{has_thread, place_in_tile}
 use Rattle.tn_thread.specs.declared.thread.Thread.{Thread}
-use Rattle.tn_thread.specs.Fits.{OpFits, StepFits}
-use Rattle.tn_thread.specs.Sight.{Sight}
-use Rattle.tn_thread.specs.Step.{Stepped, runnable}
-use Rattle.tn_tile.specs.Kept.{WellShaped}
-use Rattle.tn_tile.specs.Receivers.{is_dead}
-use Rattle.tn_tile.specs.Step.{acted, can_step, next_step, no_thread, pending_at, sight_at, step_at_place, stepped, thread_at, with_thread}
+use Rattle.tn_tile.specs.Step.{acted, can_step, pending_at, step_at_place, stepped, thread_at, with_thread}
 use Rattle.tn_tile.specs.TileView.{TileView}
-use Rattle.tn_tile.proofs.Packed.{few_places}
-use Rattle.tn_tile.proofs.Shaped.{step_shaped}
 use Rattle.tn_rows.specs.PartView.{PartView, TileV, AbsentV}
 use Rattle.tn_rows.specs.WorldView.{WorldView}
 use Rattle.tn_bag.specs.declared.steps.BagStep.{BagStep}
-use Rattle.tn_bag.specs.declared.steps.BagStep.TheVariants as bag
-use Rattle.tn_bag.specs.declared.steps.Seen.{Seen}
-use Rattle.tn_bag.specs.Law.{dropped_in, dropped_on}
-use Rattle.tn_bag.specs.Letters.{SameBag, Takes, letters, packet_letters}
-use Rattle.tn_bag.specs.Machine.{Allows, BagRun, Happens, IsAllowed, MayStandFirst, MayStep, SamePacket, ended_by, freed, handed, own_step, sent_by, sight, with_own_step}
-use Rattle.tn_bag.specs.Standing.{bag_at, standing_letters}
-use Rattle.tn_bag.specs.State.{Agree, BagState, Program, Same, put}
-use Rattle.tn_bag.specs.Steps.{dropped_by, first_letter, queued, seen_at, step_by, thread_step}
-use Rattle.tn_bag.specs.Tiles.{held_in, held_of, letter_in, part_for, program_of, reach_of, sender_at, thread_of, tile_for}
-use Rattle.tn_bag.proofs.Fits.{next_fits}
-use Rattle.tn_bag.proofs.Holding.{freed_here, freed_others, left_here, left_others, taken_here, taken_others}
-use Rattle.tn_bag.proofs.Lift.{Good, GoodTile, On, Stands, good_lift, lift_put, lift_same, on_new, twice, part_is, place_within, program_stays, tile_here, tile_is, tile_stands, with_tile}
-use Rattle.tn_bag.proofs.Runs.{ForDead, discards, run_before, run_join, same_refl}
-use Rattle.tn_bag.proofs.Slots.{freed_w, left_w, taken_w}
-use Rattle.tn_bag.proofs.Sums.{sum_one}
-use Rattle.tn_bag.proofs.Weights.{packet_w, same_bag, tile_w}
-use Rattle.std.proofs.Common.{ℕ, ◌+◌, ◌-◌, ◌*◌, ◌^◌, ◌<◌, ◌≤◌, ◌≡◌, ◌≢◌, ◌==◌, ◌&&◌, Bool, true, false, cond, List, [], ◌∷◌, ◌++◌, length, get_or, set, map, zero, suc, refl, sym, ◌∙◌, ap, subst, inl, inr, arith, length-set, Option, Some, None, is_none, is_some, option_map, unwrap_or, MatchOption, IsTrue, sum_by}
+use Rattle.tn_bag.specs.Machine.{BagRun}
+use Rattle.tn_bag.specs.Steps.{thread_step}
+use Rattle.tn_bag.specs.Tiles.{program_of, reach_of}
+use Rattle.tn_bag.proofs.Lift.{Good, On, on_new, twice, with_tile}
+use Rattle.tn_bag.proofs.Runs.{run_join, same_refl}
+use Rattle.std.proofs.Common.{ℕ, ◌≡◌, ◌&&◌, Bool, true, false, List, [], ◌∷◌, ◌++◌, set, zero, suc, refl, sym, ◌∙◌, ap, subst, arith, Option, Some, None, option_map, unwrap_or, IsTrue}
 use Rattle.std.specs.List.{slice_get}
 use Rattle.std.specs.Prelude.{option_and_then}
 use Rattle.std.proofs.lemmas.List.{set-get_or}
+use Rattle.std.proofs.lemmas.Option.{get_or_from_slice_get, slice_get_within}
 use Rattle.tn_base.specs.declared.event.Event.{Event}
 use Rattle.tn_base.specs.declared.event.Event.TheVariants as event
-use Rattle.tn_tile.specs.Rows.{can_count, deliver_row, delivered_from, is_here, turn_row}
+use Rattle.tn_tile.specs.Rows.{delivered_from, is_here}
 use Rattle.tn_tile.specs.Step.{steps_of}
 use Rattle.tn_tile.proofs.Steps.{taken}
-use Rattle.tn_rows.specs.Events.{after, happened, happened_at, part_of, place_of, tile_row, with_part}
+use Rattle.tn_rows.specs.Events.{after, happened, happened_at, place_of, tile_row, with_part}
 use Rattle.tn_rows.specs.Runs.{Run}
-use Rattle.tn_bag.specs.Law.{IsBagRun, IsStart, Shows}
 use Rattle.tn_bag.specs.Steps.{bag_of, event_steps, part_steps, tile_steps, turn_steps}
 use Rattle.tn_bag.proofs.Delivery.{delivery_reached}
-use Rattle.tn_bag.proofs.Simulate.{Place, Reached, next, shown}
+use Rattle.tn_bag.proofs.Simulate.{Place, Reached, shown}
 use Rattle.tn_bag.proofs.Threads.{step_reached}
 
 -- ---- runs in a row
@@ -118,3 +83,67 @@ turn_reached (suc n) got dropped w p a k v new c is =
     let rest = turn_reached n one.now one.gone mid p a k (stepped k v) new there first.1 in
     reached_join got dropped w mid (with_tile w p new) (thread_step a k v) (turn_steps a k n (stepped k v)) one
     (subst (λ (x : WorldView). Reached one.now one.gone mid (turn_steps a k n (stepped k v)) x) (twice w p (stepped k v) new) rest)
+
+-- ---- an event on a tile
+
+first_of_four : (a b c d : Bool) → (a && b && c && d) ≡ true → a ≡ true
+first_of_four true b c d e = refl
+first_of_four false b c d e = cc e
+
+-- the thread of an event on the tile of a part is at its place there
+here_is : (w : WorldView) (p a : ℕ) (v : TileView) → Good w → On w p v → is_here a v ≡ true → Place w p v a (place_in_tile v.shape a)
+here_is w p a v good on here =
+    let t = good.each p v on in
+    let parts = and_parts _ _ here in
+    record {
+      good = good;
+      on = on;
+      stands = record { there = subst (λ n. IsTrue (has_thread n a)) t.shape parts.0; tile = eqb-true _ _ parts.1; place = ap (λ n. place_in_tile n a) (sym t.shape) };
+    }
+
+row_reached : (got : ℕ → List Letter) (dropped : List Letter) (e : Event) (w : WorldView) (p : ℕ) (v new : TileView) → Good w → On w p v → tile_row e v ≡ Some new → Reached got dropped w (tile_steps (reach_of w) e v) (with_tile w p new)
+row_reached got dropped (event.Turn t n) w p v new good on row =
+    let yes = taken _ (steps_of (place_in_tile v.shape t.0) n v) new row in
+    turn_reached n got dropped w p t.0 (place_in_tile v.shape t.0) v new (here_is w p t.0 v good on (first_of_four (is_here t.0 v) _ _ _ yes.0)) yes.1
+row_reached got dropped (event.Deliver t) w p v new good on row =
+    let yes = taken _ (delivered_from (place_in_tile v.shape t.0) (pending_at v (place_in_tile v.shape t.0)) v) new row in
+    delivery_reached got dropped w p t.0 (place_in_tile v.shape t.0) v new (here_is w p t.0 v good on (and_parts _ _ yes.0).0) yes.1
+row_reached got dropped (event.Depart x y) w p v new good on row = cc row
+row_reached got dropped (event.Arrive x y) w p v new good on row = cc row
+row_reached got dropped (event.Route x) w p v new good on row = cc row
+row_reached got dropped event.HostPut w p v new good on row = cc row
+row_reached got dropped event.HostTake w p v new good on row = cc row
+row_reached got dropped (event.Report x) w p v new good on row = cc row
+row_reached got dropped event.Begin w p v new good on row = cc row
+row_reached got dropped (event.Confirm x) w p v new good on row = cc row
+row_reached got dropped event.Announce w p v new good on row = cc row
+row_reached got dropped (event.Release x) w p v new good on row = cc row
+row_reached got dropped (event.Go x) w p v new good on row = cc row
+
+-- ---- an event on the machine
+
+by_row : (got : ℕ → List Letter) (dropped : List Letter) (e : Event) (w new : WorldView) (p : ℕ) (v : TileView) (r : Option TileView) → Good w → On w p v → tile_row e v ≡ r → with_part w p (option_map TileV r) ≡ Some new → Reached got dropped w (tile_steps (reach_of w) e v) new
+by_row got dropped e w new p v None good on row is = cc is
+by_row got dropped e w new p v (Some x) good on row is =
+    subst (λ (y : WorldView). Reached got dropped w (tile_steps (reach_of w) e v) y) (ap (λ (o : Option WorldView). unwrap_or o new) is) (row_reached got dropped e w p v x good on row)
+
+by_part : (got : ℕ → List Letter) (dropped : List Letter) (e : Event) (w new : WorldView) (p : ℕ) (q : Option PartView) → Good w → slice_get w.parts p ≡ q → with_part w p (option_and_then (after e) q) ≡ Some new → Reached got dropped w (part_steps (reach_of w) e q) new
+by_part got dropped e w new p None good here is = cc is
+by_part got dropped e w new p (Some AbsentV) good here is = cc is
+by_part got dropped e w new p (Some (TileV v)) good here is =
+    by_row got dropped e w new p v (tile_row e v) good (record { within = slice_get_within w.parts p (TileV v) here; is = get_or_from_slice_get w.parts p (TileV v) AbsentV here }) refl is
+
+by_place : (got : ℕ → List Letter) (dropped : List Letter) (e : Event) (w new : WorldView) (o : Option ℕ) → Good w → happened_at e w o ≡ Some new → Reached got dropped w (part_steps (reach_of w) e (option_and_then (slice_get w.parts) o)) new
+by_place got dropped e w new None good is = cc is
+by_place got dropped e w new (Some p) good is = by_part got dropped e w new p (slice_get w.parts p) good refl is
+
+pub event_reached : (got : ℕ → List Letter) (dropped : List Letter) (e : Event) (w new : WorldView) → Good w → happened e w ≡ Some new → Reached got dropped w (event_steps e w) new
+event_reached got dropped e w new good is = by_place got dropped e w new (place_of w.shape e) good is
+
+pub run_reached : (got : ℕ → List Letter) (dropped : List Letter) (es : List Event) (w end : WorldView) → Good w → Run w es end → Reached got dropped w (bag_of w es) end
+run_reached got dropped [] w end good run = subst (λ (x : WorldView). Reached got dropped w [] x) run (reached_none got dropped w good)
+run_reached got dropped (e ∷ es) w end good run =
+    let one = event_reached got dropped e w run.0 good run.1 in
+    let rest = run_reached one.now one.gone es run.0 end one.good run.3 in
+    subst (λ (steps : List BagStep). Reached got dropped w (event_steps e w ++ steps) end) (sym (ap (λ (o : Option WorldView). unwrap_or (option_map (λ mid. bag_of mid es) o) []) run.1))
+    (reached_join got dropped w run.0 end (event_steps e w) (bag_of run.0 es) one rest)

@@ -1,8 +1,7 @@
 -- What stands on a part, by any weight of letters.
-use Rattle.std.proofs.Common.{ℕ, ◌+◌, ◌*◌, ◌<◌, ◌≤◌, ◌≡◌, ◌≢◌, ◌==◌, Bool, true, false, cond, List, [], ◌∷◌, ◌++◌, length, get_or, set, map, zero, suc, refl, sym, ◌∙◌, ap, inl, inr, arith, Option, Some, None, sum_by}
+use Rattle.std.proofs.Common.{ℕ, ◌+◌, ◌≡◌, ◌==◌, cond, List, ◌++◌, length, get_or, refl, ◌∙◌, arith, Option, Some, None, sum_by}
 use Rattle.std.specs.Int.{bit_at}
 use Rattle.std.specs.List.{range_with_len}
-use Rattle.std.proofs.lemmas.List.{get_or-set_same, get_or-set_other}
 use Rattle.std.proofs.lemmas.List.Sums.{sum_by-append}
 use Rattle.tn_base.specs.declared.message.Letter.{Letter}
 use Rattle.tn_base.specs.declared.message.Packet.{Packet}
@@ -22,7 +21,7 @@ use Rattle.tn_bag.specs.declared.place.Place.TheVariants as place
 use Rattle.tn_bag.specs.Letters.{Reach, SameBag, packet_letters}
 use Rattle.tn_bag.specs.Standing.{owed_standing, part_standing, pending_standing, ports, slots_standing, standing, standing_letters, transit_standing, waiting}
 use Rattle.tn_bag.specs.Tiles.{letter_in, reach_of}
-use Rattle.tn_bag.proofs.Sums.{sum_below, sum_flat, sum_map, sum_one, sum_only, sum_same}
+use Rattle.tn_bag.proofs.Sums.{sum_below, sum_flat, sum_map, sum_only, sum_same}
 
 -- bags are the same where each weight of letters weighs them the same
 pub same_bag : (xs ys : List Letter) → ((w : Letter → ℕ) → sum_by w xs ≡ sum_by w ys) → SameBag xs ys

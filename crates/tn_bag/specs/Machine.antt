@@ -1,5 +1,5 @@
 -- The steps of the bag machine. It has threads and one bag of letters in flight: no queue, no slot order, no buffer.
-use Rattle.std.specs.Prelude.{ℕ, ◌≡◌, ◌+◌, ◌⊎◌, Bool, true, IsTrue, List, [], ◌∷◌, ◌++◌, map, Option, Some, None, MatchOption, option_map, if◌then◌else◌}
+use Rattle.std.specs.Prelude.{ℕ, ◌≡◌, ◌+◌, ◌⊎◌, true, IsTrue, List, [], ◌∷◌, ◌++◌, map, Option, Some, None, MatchOption, option_map, if◌then◌else◌}
 use Rattle.std.specs.List.{list_all, range_with_len}
 use Rattle.tn_base.specs.declared.message.Letter.{Letter}
 use Rattle.tn_base.specs.declared.op.Op.{Op}
@@ -8,7 +8,6 @@ use Rattle.tn_base.specs.declared.shape.ShapeNumbers.{ShapeNumbers}
 use Rattle.tn_base.specs.Address.{has_thread, thread_at, tile_of}
 use Rattle.tn_base.specs.Shape.{thread_count}
 use Rattle.tn_slots.specs.Pool.{key_in}
-use Rattle.tn_thread.specs.declared.thread.Thread.{Thread}
 use Rattle.tn_thread.specs.Sight.{Sight}
 use Rattle.tn_thread.specs.Step.{Stepped, runnable}
 use Rattle.tn_tile.specs.Receivers.{is_dead}

@@ -1,5 +1,5 @@
 -- The steps of the bag machine that events are.
-use Rattle.std.specs.Prelude.{ℕ, zero, suc, ◌≡◌, Bool, List, [], ◌∷◌, ◌++◌, map, Option, Some, None, is_none, option_and_then, option_map, slice_get, unwrap_or, if◌then◌else◌}
+use Rattle.std.specs.Prelude.{ℕ, zero, suc, Bool, List, [], ◌∷◌, ◌++◌, map, Option, Some, None, is_none, option_and_then, option_map, slice_get, unwrap_or}
 use Rattle.std.specs.List.{filter}
 use Rattle.tn_base.specs.declared.event.Event.{Event}
 use Rattle.tn_base.specs.declared.event.Event.TheVariants as event

@@ -1,8 +1,6 @@
 -- The states of the bag machine that a machine of tiles shows.
-use Rattle.std.specs.Prelude.{ℕ, ◌≡◌, ◌==◌, List, [], ◌∷◌, map, Option, Some, None, is_none, option_map, slice_index_or, if◌then◌else◌}
+use Rattle.std.specs.Prelude.{ℕ, ◌==◌, [], Option, Some, None, slice_index_or, if◌then◌else◌}
 use Rattle.std.specs.Int.{bit_at}
-use Rattle.rv_isa.specs.declared.instr.Instr.{Instr}
-use Rattle.tn_base.specs.declared.ids.ThreadId.{ThreadId}
 use Rattle.tn_base.specs.declared.message.Letter.{Letter}
 use Rattle.tn_base.specs.Address.{in_tile, place_in_tile, tile_of, tile_place}
 use Rattle.tn_base.specs.Parts.{tile_part}
