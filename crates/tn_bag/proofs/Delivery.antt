@@ -337,8 +337,8 @@ dropped_dead got dropped w p a k v new packet c fits here same =
     let there : IsTrue (has_thread w.shape b) = subst (λ n. IsTrue (has_thread n b)) t.shape h in
     let near : part_for w b ≡ p = ap (λ x. tile_part (tile_place w.shape x)) on ∙ t.part in
     let is : thread_of (with_tile w p new) b ≡ thread_at v (place_in_tile v.shape b) =
-        ap (λ x. thread_at x (place_in_tile w.shape b)) (tile_here w p new b c.on.within near)
-        ∙ (ap (λ ts. get_or ts (place_in_tile w.shape b) no_thread) same ∙ ap (λ n. thread_at v (place_in_tile n b)) (sym t.shape)) in
+    ap (λ x. thread_at x (place_in_tile w.shape b)) (tile_here w p new b c.on.within near)
+    ∙ (ap (λ ts. get_or ts (place_in_tile w.shape b) no_thread) same ∙ ap (λ n. thread_at v (place_in_tile n b)) (sym t.shape)) in
     (there, λ dead. ap (λ (x : Thread). is_dead x.state) is ∙ dead)))
 
 here_drops : (w : WorldView) (p a k : ℕ) (v : TileView) (packet : Packet) (mid : TileView) → Place w p v a k → pending_at v k ≡ Some packet → tile_port v.tile packet.dest ≡ port.Here →
@@ -360,7 +360,7 @@ here_drops w p a k v packet mid c e here m =
           let y : packet_w f v.shape (reach_of w) (pending_at v k) ≡ sum_by f (packet_letters v.shape (reach_of w) packet) = ap (packet_w f v.shape (reach_of w)) e in
           let h = letters_here f v.shape (reach_of w) v.tile packet.origin packet.number packet.dest packet.bytes limits t.shaped.tile (and_parts _ _ fits).0 here in
           let q = sum_two (λ j. cond (bit_at (bit_and to dead) j == 1) (f (l j)) 0) (λ j. cond (bit_at (bit_and to (bit_not w64 dead)) j == 1) (f (l j)) 0) (λ j. cond (bit_at to j == 1) (f (l j)) 0) 0 (tile_threads v.shape)
-              (λ j a b. parted to dead j (f (l j)) low (omega arith)) in
+          (λ j a b. parted to dead j (f (l j)) low (omega arith)) in
           let d = dead_letters f w p a k v packet c fits here in
           let s = m.weighs f in
           omega arith;
@@ -406,11 +406,12 @@ here_delivers w p a k v new packet c e here is =
     let count : ℕ = count_ones (dead_of v.threads to) in
     let m = counted_is count (stored alive packet (taken_up v k)) new is in
     let low : alive < 2 ^ length v.pool.queues =
-        let x = receivers_below v.shape v.tile packet.dest limits (and_parts _ _ fits).0 in
-        let y = and_le_l to (bit_not w64 (dead_in v.threads)) in
-        let q : 2 ^ length v.pool.queues ≡ 2 ^ tile_threads v.shape = ap (λ n. 2 ^ n) t.shaped.queues in
-        omega arith in
-    let short : length packet.bytes ≤ v.pool.slot_bytes = let x : length packet.bytes ≤ slot_bytes v.shape = leb-true _ _ (and_parts _ _ fits).1 in let y : v.pool.slot_bytes ≡ slot_bytes v.shape = t.shaped.slot_bytes in omega arith in
+    let x = receivers_below v.shape v.tile packet.dest limits (and_parts _ _ fits).0 in
+    let y = and_le_l to (bit_not w64 (dead_in v.threads)) in
+    let q : 2 ^ length v.pool.queues ≡ 2 ^ tile_threads v.shape = ap (λ n. 2 ^ n) t.shaped.queues in
+    omega arith in
+    let fit : length packet.bytes ≤ slot_bytes v.shape = leb-true (length packet.bytes) (slot_bytes v.shape) (and_parts _ _ fits).1 in
+    let short : length packet.bytes ≤ v.pool.slot_bytes = rw t.shaped.slot_bytes fit in
     let s : Stored w alive packet (taken_up v k) m.0 = stored_is w alive packet (taken_up v k) m.0 (alive == 0) refl (pending_shaped v k None tt t.shaped) t.kept low short m.1 in
     subst (λ x. Delivers w p v x (filter (is_for_dead v) (packet_letters v.shape (reach_of w) packet))) (sym m.2) (record {
       drops = here_drops w p a k v packet m.0 c e here s;

@@ -37,11 +37,11 @@ with_slots v slots queues senders = record v { pool = record { slots = slots; qu
 put_one : (f g : ℕ → Option Letter) (s : ℕ) (o : Option Letter) → g s ≡ o → ((j : ℕ) → j ≢ s → g j ≡ f j) → g ≡ put f s o
 put_one f g s o here others = λ i j. by j i
   where
-  by : (j : ℕ) → g j ≡ put f s o j
-  by j = elim (cases_eq j s) [
-    | inl e ↦ ap g e ∙ (here ∙ sym (ap (λ c. cond c o (f j)) (eq-eqb j s e)))
-    | inr ne ↦ others j ne ∙ sym (ap (λ c. cond c o (f j)) (ne_eqb j s ne))
-  ]
+    by : (j : ℕ) → g j ≡ put f s o j
+    by j = elim (cases_eq j s) [
+      | inl e ↦ ap g e ∙ (here ∙ sym (ap (λ c. cond c o (f j)) (eq-eqb j s e)))
+      | inr ne ↦ others j ne ∙ sym (ap (λ c. cond c o (f j)) (ne_eqb j s ne))
+    ]
 
 -- slot s is another one with the same bytes
 abbrev replaced : TileView → ℕ → Slot → List (List ℕ) → TileView
@@ -60,15 +60,15 @@ changed_one v s k x queues o h e = put_one (held_in v k) (held_in (replaced v s 
 changed_others : (v : TileView) (s u : ℕ) (x : Slot) (queues : List (List ℕ)) → s < length v.pool.slots → x.bytes ≡ (slot_at v.pool s).bytes → bit_at x.holders u ≡ bit_at (slot_at v.pool s).holders u → held_in (replaced v s x queues) u ≡ held_in v u
 changed_others v s u x queues h bytes bit = λ i j. by j i
   where
-  by : (j : ℕ) → held_in (replaced v s x queues) u j ≡ held_in v u j
-  by j = elim (cases_eq j s) [
-    | inr ne ↦ replaced_other v s u j x queues ne
-    | inl e ↦
-        ap (held_in (replaced v s x queues) u) e
-        ∙ (replaced_here v s u x queues h
-        ∙ (ap (λ b. cond (b == 1) (Some (letter_of v (sender_at v s) x.bytes u)) None) bit
-        ∙ (ap (λ y. cond (bit_at (slot_at v.pool s).holders u == 1) (Some (letter_of v (sender_at v s) y u)) None) bytes ∙ ap (held_in v u) (sym e))))
-  ]
+    by : (j : ℕ) → held_in (replaced v s x queues) u j ≡ held_in v u j
+    by j = elim (cases_eq j s) [
+      | inr ne ↦ replaced_other v s u j x queues ne
+      | inl e ↦
+          ap (held_in (replaced v s x queues) u) e
+          ∙ (replaced_here v s u x queues h
+          ∙ (ap (λ b. cond (b == 1) (Some (letter_of v (sender_at v s) x.bytes u)) None) bit
+          ∙ (ap (λ y. cond (bit_at (slot_at v.pool s).holders u == 1) (Some (letter_of v (sender_at v s) y u)) None) bytes ∙ ap (held_in v u) (sym e))))
+    ]
 
 pub taken_here : (v : TileView) (k s : ℕ) (queues : List (List ℕ)) → k < 64 → s < length v.pool.slots → held_in (replaced v s (taken_slot k (slot_at v.pool s)) queues) k ≡ put (held_in v k) s (Some (letter_in v k s))
 taken_here v k s queues h within = changed_one v s k (taken_slot k (slot_at v.pool s)) queues (Some (letter_in v k s)) within (held_yes v (sender_at v s) (taken_slot k (slot_at v.pool s)) k (with_same (slot_at v.pool s).holders k h))
@@ -104,16 +104,17 @@ pub stored_held : (v : TileView) (s mask : ℕ) (bytes : List ℕ) (from : Sende
     held_in (with_slots v (set v.pool.slots s (record { bytes = bytes; owed = mask; holders = 0 })) queues (set v.senders s from)) u ≡ held_in v u
 stored_held v s mask bytes from queues u within free = λ i j. by j i
   where
-  x : Slot
-  x = record { bytes = bytes; owed = mask; holders = 0 }
-  by : (j : ℕ) → held_in (with_slots v (set v.pool.slots s x) queues (set v.senders s from)) u j ≡ held_in v u j
-  by j = elim (cases_eq j s) [
-    | inr ne ↦
-        ap (λ (y : Slot). held_x v (get_or (set v.senders s from) j no_sender) y u) (get_or-set_other v.pool.slots s j x empty_slot ne)
-        ∙ ap (λ (d : Sender). held_x v d (slot_at v.pool j) u) (get_or-set_other v.senders s j from no_sender ne)
-    | inl e ↦
-        let here : get_or (set v.pool.slots s x) j empty_slot ≡ x = ap (λ i. get_or (set v.pool.slots s x) i empty_slot) e ∙ get_or-set_same v.pool.slots s x empty_slot within in
-        let bit : bit_at (get_or (set v.pool.slots s x) j empty_slot).holders u ≡ 0 = ap (λ (y : Slot). bit_at y.holders u) here ∙ bit_at-zero u in
-        let was : bit_at (slot_at v.pool j).holders u ≡ 0 = ap (λ i. bit_at (slot_at v.pool i).holders u) e ∙ (ap (λ b. bit_at b u) (free_masks (slot_at v.pool s) free).1 ∙ bit_at-zero u) in
-        held_not v (get_or (set v.senders s from) j no_sender) (get_or (set v.pool.slots s x) j empty_slot) u bit ∙ sym (held_not v (sender_at v j) (slot_at v.pool j) u was)
-  ]
+    x : Slot
+    x = record { bytes = bytes; owed = mask; holders = 0 }
+
+    by : (j : ℕ) → held_in (with_slots v (set v.pool.slots s x) queues (set v.senders s from)) u j ≡ held_in v u j
+    by j = elim (cases_eq j s) [
+      | inr ne ↦
+          ap (λ (y : Slot). held_x v (get_or (set v.senders s from) j no_sender) y u) (get_or-set_other v.pool.slots s j x empty_slot ne)
+          ∙ ap (λ (d : Sender). held_x v d (slot_at v.pool j) u) (get_or-set_other v.senders s j from no_sender ne)
+      | inl e ↦
+          let here : get_or (set v.pool.slots s x) j empty_slot ≡ x = ap (λ i. get_or (set v.pool.slots s x) i empty_slot) e ∙ get_or-set_same v.pool.slots s x empty_slot within in
+          let bit : bit_at (get_or (set v.pool.slots s x) j empty_slot).holders u ≡ 0 = ap (λ (y : Slot). bit_at y.holders u) here ∙ bit_at-zero u in
+          let was : bit_at (slot_at v.pool j).holders u ≡ 0 = ap (λ i. bit_at (slot_at v.pool i).holders u) e ∙ (ap (λ b. bit_at b u) (free_masks (slot_at v.pool s) free).1 ∙ bit_at-zero u) in
+          held_not v (get_or (set v.senders s from) j no_sender) (get_or (set v.pool.slots s x) j empty_slot) u bit ∙ sym (held_not v (sender_at v j) (slot_at v.pool j) u was)
+    ]

@@ -12,3 +12,5 @@ pub mod Delivery
 pub mod PartKinds
 pub mod Walks
 pub mod Starts
+pub mod Loops
+pub mod Made

@@ -1,12 +1,11 @@
 -- From one tile of a machine to the whole machine.
 use Rattle.std.proofs.Common.{ℕ, ◌+◌, ◌<◌, ◌≡◌, ◌≢◌, cond, List, [], ◌∷◌, length, get_or, set, zero, suc, refl, sym, ◌∙◌, ap, subst, inl, inr, arith, length-set, IsTrue, sum_by}
-use Rattle.std.specs.List.{range_with_len}
 use Rattle.std.proofs.lemmas.Bool.{cases_eq, eq-eqb, ne_eqb}
 use Rattle.std.proofs.lemmas.List.{get_or-set_same, get_or-set_other}
 use Rattle.tn_base.specs.declared.message.Letter.{Letter}
 use Rattle.tn_base.specs.declared.shape.ShapeNumbers.{ShapeNumbers}
 use Rattle.tn_base.specs.Address.{has_thread, has_tile, in_tile, place_in_tile, tile_of, tile_place, tile_threads}
-use Rattle.tn_base.specs.Parts.{tile_at, tile_part}
+use Rattle.tn_base.specs.Parts.{part_count, tile_at, tile_part}
 use Rattle.tn_base.specs.Shape.{WithinLimits}
 use Rattle.tn_base.proofs.TilePlaces.{fields, place_below, place_named, tile_found}
 use Rattle.tn_slots.specs.WellKept.{WellKept}
@@ -30,9 +29,11 @@ pub record GoodTile (n : ShapeNumbers) (p : ℕ) (v : TileView) : Type 0 where
 -- part p of the machine is this tile
 pub record On (w : WorldView) (p : ℕ) (v : TileView) : Type 0 where
   pub within : p < length w.parts
+  pub below : p < part_count w.shape
   pub is : get_or w.parts p AbsentV ≡ TileV v
 
 pub record Good (w : WorldView) : Type 0 where
+  pub count : length w.parts ≡ part_count w.shape
   pub limits : WithinLimits w.shape
   pub each : (p : ℕ) (v : TileView) → On w p v → GoodTile w.shape p v
 
@@ -91,8 +92,8 @@ pub lift_put : {A : Type 0} (g : TileView → ℕ → A) (w : WorldView) (p a k 
 lift_put g w p a k v new x good on s here others b h = elim (cases_eq b a) [
   | inl e ↦
       put_here (of g w) a x b e ∙ sym (
-        ap (λ t. g t (place_in_tile w.shape b)) (tile_here w p new b on.within (ap (part_for w) e ∙ part_is w p a k v good on s))
-        ∙ (ap (λ c. g new (place_in_tile w.shape c)) e ∙ (ap (g new) s.place ∙ here)))
+      ap (λ t. g t (place_in_tile w.shape b)) (tile_here w p new b on.within (ap (part_for w) e ∙ part_is w p a k v good on s))
+      ∙ (ap (λ c. g new (place_in_tile w.shape c)) e ∙ (ap (g new) s.place ∙ here)))
   | inr ne ↦
       put_other (of g w) a x b ne ∙ elim (cases_eq (part_for w b) p) [
         | inr far ↦ sym (ap (λ t. g t (place_in_tile w.shape b)) (tile_other w p new b far))
@@ -131,19 +132,18 @@ tile_stands f w p v new x y on e =
     let parts = set w.parts p (TileV new) in
     let a = standing_is f w in
     let b = standing_is f (with_tile w p new) in
-    let long : length parts ≡ length w.parts = length-set w.parts p (TileV new) in
-    let same : sum_by (λ q. part_w f (reach_of w) (get_or parts q AbsentV)) (range_with_len 0 (length parts)) ≡ sum_by (λ q. part_w f (reach_of w) (get_or parts q AbsentV)) (range_with_len 0 (length w.parts)) = ap (λ n. sum_by (λ q. part_w f (reach_of w) (get_or parts q AbsentV)) (range_with_len 0 n)) long in
-    let c = sum_one (λ q. part_w f (reach_of w) (get_or parts q AbsentV)) (λ q. part_w f (reach_of w) (get_or w.parts q AbsentV)) 0 (length w.parts) p (omega arith) (let h = on.within in omega arith)
-        (λ q h ne. ap (part_w f (reach_of w)) (get_or-set_other w.parts p q (TileV new) AbsentV ne)) in
+    let c = sum_one (λ q. part_w f (reach_of w) (get_or parts q AbsentV)) (λ q. part_w f (reach_of w) (get_or w.parts q AbsentV)) 0 (part_count w.shape) p (omega arith) (let h = on.below in omega arith)
+    (λ q h ne. ap (part_w f (reach_of w)) (get_or-set_other w.parts p q (TileV new) AbsentV ne)) in
     let here : part_w f (reach_of w) (get_or parts p AbsentV) ≡ tile_w f (reach_of w) new = ap (part_w f (reach_of w)) (get_or-set_same w.parts p (TileV new) AbsentV on.within) in
     let was : part_w f (reach_of w) (get_or w.parts p AbsentV) ≡ tile_w f (reach_of w) v = ap (part_w f (reach_of w)) on.is in
     omega arith
 
 pub on_new : (w : WorldView) (p : ℕ) (v new : TileView) → On w p v → On (with_tile w p new) p new
-on_new w p v new on = record { within = let l = length-set w.parts p (TileV new) in let h = on.within in omega arith; is = get_or-set_same w.parts p (TileV new) AbsentV on.within }
+on_new w p v new on = record { within = let l = length-set w.parts p (TileV new) in let h = on.within in omega arith; below = on.below; is = get_or-set_same w.parts p (TileV new) AbsentV on.within }
 
 pub good_lift : (w : WorldView) (p : ℕ) (v new : TileView) → Good w → On w p v → GoodTile w.shape p new → Good (with_tile w p new)
 good_lift w p v new g on t = record {
+  count = length-set w.parts p (TileV new) ∙ g.count;
   limits = g.limits;
   each = λ q u is. elim (cases_eq q p) [
     | inl e ↦
@@ -152,6 +152,7 @@ good_lift w p v new g on t = record {
     | inr ne ↦
         g.each q u (record {
           within = let l = length-set w.parts p (TileV new) in let h = is.within in omega arith;
+          below = is.below;
           is = sym (get_or-set_other w.parts p q (TileV new) AbsentV ne) ∙ is.is;
         })
   ];

@@ -47,10 +47,10 @@ one_digit m =
     let e = ap ones whole in
     omega arith
   where
-  low_digit : (d : ℕ) → d < 2 → ones d ≡ d
-  low_digit zero h = refl
-  low_digit (suc zero) h = refl
-  low_digit (suc (suc d)) h = absurd (omega arith)
+    low_digit : (d : ℕ) → d < 2 → ones d ≡ d
+    low_digit zero h = refl
+    low_digit (suc zero) h = refl
+    low_digit (suc (suc d)) h = absurd (omega arith)
 
 -- the ones of a number are its bits, added up
 pub ones_are : (n m : ℕ) → m < 2 ^ n → ones m ≡ sum_by (bit_at m) (range_with_len 0 n)
@@ -72,24 +72,24 @@ parted set dead k x h j =
     by (bit_at set k) (bit_at dead k) (bit_at (bit_and set dead) k) (bit_at (bit_and set (bit_not w64 dead)) k) (bit_cases set k) (bit_cases dead k)
     (bit_at_and set dead k) (bit_at_and set (bit_not w64 dead) k ∙ ap (min (bit_at set k)) (bit_at_not w64 dead k h j))
   where
-  by : (s d b c : ℕ) → (s ≡ 1) ⊎ (s ≡ 0) → (d ≡ 1) ⊎ (d ≡ 0) → b ≡ min s d → c ≡ min s (1 - d) → cond (s == 1) x 0 ≡ cond (b == 1) x 0 + cond (c == 1) x 0
-  by s d b c (inl p) (inl q) e f = let y : b ≡ 1 = rw (e, p, q) refl in let z : c ≡ 0 = rw (f, p, q) refl in rw (p, y, z) (omega arith)
-  by s d b c (inl p) (inr q) e f = let y : b ≡ 0 = rw (e, p, q) refl in let z : c ≡ 1 = rw (f, p, q) refl in rw (p, y, z) (omega arith)
-  by s d b c (inr p) (inl q) e f = let y : b ≡ 0 = rw (e, p, q) refl in let z : c ≡ 0 = rw (f, p, q) refl in rw (p, y, z) (omega arith)
-  by s d b c (inr p) (inr q) e f = let y : b ≡ 0 = rw (e, p, q) refl in let z : c ≡ 0 = rw (f, p, q) refl in rw (p, y, z) (omega arith)
+    by : (s d b c : ℕ) → (s ≡ 1) ⊎ (s ≡ 0) → (d ≡ 1) ⊎ (d ≡ 0) → b ≡ min s d → c ≡ min s (1 - d) → cond (s == 1) x 0 ≡ cond (b == 1) x 0 + cond (c == 1) x 0
+    by s d b c (inl p) (inl q) e f = let y : b ≡ 1 = rw (e, p, q) refl in let z : c ≡ 0 = rw (f, p, q) refl in rw (p, y, z) (omega arith)
+    by s d b c (inl p) (inr q) e f = let y : b ≡ 0 = rw (e, p, q) refl in let z : c ≡ 1 = rw (f, p, q) refl in rw (p, y, z) (omega arith)
+    by s d b c (inr p) (inl q) e f = let y : b ≡ 0 = rw (e, p, q) refl in let z : c ≡ 0 = rw (f, p, q) refl in rw (p, y, z) (omega arith)
+    by s d b c (inr p) (inr q) e f = let y : b ≡ 0 = rw (e, p, q) refl in let z : c ≡ 0 = rw (f, p, q) refl in rw (p, y, z) (omega arith)
 
 -- both of two sets, by one of them and a test of the other
 pub both_sets : (set dead k x : ℕ) (ended : Bool) → bit_at dead k ≡ cond ended 1 0 → cond (bit_at (bit_and set dead) k == 1) x 0 ≡ cond (bit_at set k == 1) (cond ended x 0) 0
 both_sets set dead k x true e = by (bit_at set k) (bit_at (bit_and set dead) k) (bit_cases set k) (bit_at_and set dead k ∙ ap (min (bit_at set k)) e)
   where
-  by : (s b : ℕ) → (s ≡ 1) ⊎ (s ≡ 0) → b ≡ min s 1 → cond (b == 1) x 0 ≡ cond (s == 1) x 0
-  by s b (inl p) f = let y : b ≡ 1 = rw (f, p) refl in rw (p, y) refl
-  by s b (inr p) f = let y : b ≡ 0 = rw (f, p) refl in rw (p, y) refl
+    by : (s b : ℕ) → (s ≡ 1) ⊎ (s ≡ 0) → b ≡ min s 1 → cond (b == 1) x 0 ≡ cond (s == 1) x 0
+    by s b (inl p) f = let y : b ≡ 1 = rw (f, p) refl in rw (p, y) refl
+    by s b (inr p) f = let y : b ≡ 0 = rw (f, p) refl in rw (p, y) refl
 both_sets set dead k x false e = by (bit_at set k) (bit_at (bit_and set dead) k) (bit_cases set k) (bit_at_and set dead k ∙ ap (min (bit_at set k)) e)
   where
-  by : (s b : ℕ) → (s ≡ 1) ⊎ (s ≡ 0) → b ≡ min s 0 → cond (b == 1) x 0 ≡ cond (s == 1) 0 0
-  by s b (inl p) f = let y : b ≡ 0 = rw (f, p) refl in rw (p, y) refl
-  by s b (inr p) f = let y : b ≡ 0 = rw (f, p) refl in rw (p, y) refl
+    by : (s b : ℕ) → (s ≡ 1) ⊎ (s ≡ 0) → b ≡ min s 0 → cond (b == 1) x 0 ≡ cond (s == 1) 0 0
+    by s b (inl p) f = let y : b ≡ 0 = rw (f, p) refl in rw (p, y) refl
+    by s b (inr p) f = let y : b ≡ 0 = rw (f, p) refl in rw (p, y) refl
 
 -- ---- a packet that stays on its tile
 
@@ -167,7 +167,7 @@ letters_here f n reach tile origin number (dest.Thread t) bytes limits there fit
     let k : ℕ = place_in_tile n t.0 in
     let at : in_tile n tile k ≡ t.0 = ap (λ x. in_tile n x k) (sym on) ∙ place_named n t.0 fits in
     let one = sum_single (λ j. cond (bit_at (2 ^ k) j == 1) (f (place_letter n tile origin number bytes j)) 0) (tile_threads n) k (place_below n t.0 fits)
-        (λ j ne. ap (λ b. cond (b == 1) (f (place_letter n tile origin number bytes j)) 0) (bit_at-pow_other k j ne)) in
+    (λ j ne. ap (λ b. cond (b == 1) (f (place_letter n tile origin number bytes j)) 0) (bit_at-pow_other k j ne)) in
     let bit : cond (bit_at (2 ^ k) k == 1) (f (place_letter n tile origin number bytes k)) 0 ≡ f (place_letter n tile origin number bytes k) = ap (λ b. cond b (f (place_letter n tile origin number bytes k)) 0) (eq-eqb (bit_at (2 ^ k) k) 1 (bit_at-pow_same k)) in
     let same : f (place_letter n tile origin number bytes k) ≡ f (letter origin number t.0 bytes) = ap (λ x. f (letter origin number x bytes)) at in
     let c = sum_by-cons f (letter origin number t.0 bytes) [] in

@@ -64,5 +64,5 @@ discards m s (l ∷ ls) rest dropped h = (
   same_refl m.shape (record s { flight = l ∷ (ls ++ rest); dropped = dropped }),
   (ls ++ rest, record { each = λ test. refl }, h.0, h.1, refl),
   subst (λ (ds : List Letter). BagRun m (record s { flight = ls ++ rest; dropped = dropped ++ l ∷ [] }) (map bag.Discard ls) (record s { flight = rest; dropped = ds })) (join_one dropped l ls)
-  (discards m s ls rest (dropped ++ l ∷ []) h.2),
+      (discards m s ls rest (dropped ++ l ∷ []) h.2),
 )

@@ -44,10 +44,10 @@ slot_replaced f v s x queues senders h same =
     let new : List Slot = set v.pool.slots s x in
     let none : Sender = record { origin = 0; number = 0 } in
     let a = sum_one (λ j. slot_w f v (get_or senders j none) (get_or new j empty_slot)) (λ j. slot_w f v (sender_at v j) (slot_at v.pool j)) 0 (length v.pool.slots) s (omega arith) (omega arith)
-        (λ j u ne. ap (slot_w f v (get_or senders j none)) (get_or-set_other v.pool.slots s j x empty_slot ne) ∙ ap (λ d. slot_w f v d (slot_at v.pool j)) (same j ne)) in
+    (λ j u ne. ap (slot_w f v (get_or senders j none)) (get_or-set_other v.pool.slots s j x empty_slot ne) ∙ ap (λ d. slot_w f v d (slot_at v.pool j)) (same j ne)) in
     let here : slot_w f v (get_or senders s none) (get_or new s empty_slot) ≡ slot_w f v (get_or senders s none) x = ap (slot_w f v (get_or senders s none)) (get_or-set_same v.pool.slots s x empty_slot h) in
     let long : sum_by (λ j. slot_w f v (get_or senders j none) (get_or new j empty_slot)) (range_with_len 0 (length new)) ≡ sum_by (λ j. slot_w f v (get_or senders j none) (get_or new j empty_slot)) (range_with_len 0 (length v.pool.slots))
-        = ap (λ n. sum_by (λ j. slot_w f v (get_or senders j none) (get_or new j empty_slot)) (range_with_len 0 n)) (length-set v.pool.slots s x) in
+    = ap (λ n. sum_by (λ j. slot_w f v (get_or senders j none) (get_or new j empty_slot)) (range_with_len 0 n)) (length-set v.pool.slots s x) in
     omega arith
 
 -- a thread is owed the slot no more
@@ -55,7 +55,7 @@ pub slot_lost : (f : Letter → ℕ) (v : TileView) (from : Sender) (x : Slot) (
     sum_by (λ j. cond (bit_at (without_bit x.owed k) j == 1) (f (letter_of v from x.bytes j)) 0) (range_with_len 0 (tile_threads v.shape)) + term f v from x k ≡ slot_w f v from x
 slot_lost f v from x k h few =
     let a = sum_one (λ j. cond (bit_at (without_bit x.owed k) j == 1) (f (letter_of v from x.bytes j)) 0) (term f v from x) 0 (tile_threads v.shape) k (omega arith) (omega arith)
-        (λ j u ne. ap (λ b. cond (b == 1) (f (letter_of v from x.bytes j)) 0) (without_other x.owed k j (omega arith) (omega arith) ne)) in
+    (λ j u ne. ap (λ b. cond (b == 1) (f (letter_of v from x.bytes j)) 0) (without_other x.owed k j (omega arith) (omega arith) ne)) in
     let gone : bit_at (without_bit x.owed k) k ≡ 0 = without_same x.owed k (omega arith) in
     let none : cond (bit_at (without_bit x.owed k) k == 1) (f (letter_of v from x.bytes k)) 0 ≡ 0 = ap (λ b. cond (b == 1) (f (letter_of v from x.bytes k)) 0) gone in
     omega arith
@@ -95,7 +95,7 @@ sum_times f n (x ∷ xs) below =
     let within : x < n = elim (cases_lt x n) [ inl h ↦ h | inr h ↦ absurd (let z = below x h in let c = times_first x xs in omega arith) ] in
     let rest = sum_times f n xs (λ s h. let z = below s h in let c = times-cons s x xs in omega arith) in
     let a = sum_one (λ s. times s (x ∷ xs) * f s) (λ s. times s xs * f s) 0 n x (omega arith) (omega arith)
-        (λ s u ne. ap (λ m. m * f s) (times_other s x xs (λ e. ne (sym e)))) in
+    (λ s u ne. ap (λ m. m * f s) (times_other s x xs (λ e. ne (sym e)))) in
     let here : times x (x ∷ xs) * f x ≡ (1 + times x xs) * f x = ap (λ m. m * f x) (times-cons x x xs ∙ ap (λ b. cond b 1 0 + times x xs) (eq-eqb x x refl)) in
     let c = sum_by-cons f x xs in
     let d : (1 + times x xs) * f x ≡ f x + times x xs * f x = let m : suc (times x xs) * f x ≡ times x xs * f x + f x = suc-mul (times x xs) (f x) in let o : 1 + times x xs ≡ suc (times x xs) = omega arith in ap (λ n. n * f x) o ∙ (m ∙ omega arith) in
@@ -123,7 +123,7 @@ left_w f v k queues w h j few =
     let new : List Slot = map (left_slot k) v.pool.slots in
     let a = queue_w f v k w h in
     let long : sum_by (λ s. slot_w f v (sender_at v s) (get_or new s empty_slot)) (range_with_len 0 (length new)) ≡ sum_by (λ s. slot_w f v (sender_at v s) (get_or new s empty_slot)) (range_with_len 0 (length v.pool.slots))
-        = ap (λ n. sum_by (λ s. slot_w f v (sender_at v s) (get_or new s empty_slot)) (range_with_len 0 n)) (length-map v.pool.slots (left_slot k)) in
+    = ap (λ n. sum_by (λ s. slot_w f v (sender_at v s) (get_or new s empty_slot)) (range_with_len 0 n)) (length-map v.pool.slots (left_slot k)) in
     let b = sum_two (λ s. slot_w f v (sender_at v s) (get_or new s empty_slot)) (λ s. term f v (sender_at v s) (slot_at v.pool s) k) (λ s. slot_w f v (sender_at v s) (slot_at v.pool s)) 0 (length v.pool.slots)
-        (λ s l u. sym (ap (λ x. slot_w f v (sender_at v s) x + term f v (sender_at v s) (slot_at v.pool s) k) (get_or-map (left_slot k) v.pool.slots s empty_slot empty_slot (omega arith)) ∙ slot_lost f v (sender_at v s) (slot_at v.pool s) k j few)) in
+    (λ s l u. sym (ap (λ x. slot_w f v (sender_at v s) x + term f v (sender_at v s) (slot_at v.pool s) k) (get_or-map (left_slot k) v.pool.slots s empty_slot empty_slot (omega arith)) ∙ slot_lost f v (sender_at v s) (slot_at v.pool s) k j few)) in
     omega arith

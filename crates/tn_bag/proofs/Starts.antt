@@ -41,9 +41,9 @@ fits_tile n p v kind.Detector e f = absurd f
 slot_room : (n : ShapeNumbers) → 16 ≤ slot_bytes n
 slot_room n = by (n.version == 1)
   where
-  by : (b : Bool) → 16 ≤ cond b 64 128
-  by true = omega arith
-  by false = omega arith
+    by : (b : Bool) → 16 ≤ cond b 64 128
+    by true = omega arith
+    by false = omega arith
 
 good_tile : (w : WorldView) (p : ℕ) (v : TileView) → IsStart w → WithinLimits w.shape → On w p v → GoodTile w.shape p v
 good_tile w p v s limits on =
@@ -65,7 +65,7 @@ good_tile w p v s limits on =
 pub good_start : (w : WorldView) → IsStart w → Good w
 good_start w s =
     let limits = within_limits w.shape s.shape in
-    record { limits = limits; each = λ p v on. good_tile w p v s limits on }
+    record { count = s.world.count; limits = limits; each = λ p v on. good_tile w p v s limits on }
 
 none_dropped : (n : ShapeNumbers) (part : PartView) → StartsSo n part → dropped_on part ≡ 0
 none_dropped n (TileV v) s = ap (λ (x : TileView). x.dropped) s.3

@@ -47,7 +47,7 @@ pub pending_set : (f : Letter → ℕ) (w : WorldView) (v : TileView) (k : ℕ) 
     tile_w f (reach_of w) (record v { pending = set v.pending k o }) + packet_w f v.shape (reach_of w) (pending_at v k) ≡ tile_w f (reach_of w) v + packet_w f v.shape (reach_of w) o
 pending_set f w v k o h within =
     let a = sum_one (λ j. packet_w f v.shape (reach_of w) (get_or (set v.pending k o) j None)) (λ j. packet_w f v.shape (reach_of w) (pending_at v j)) 0 (tile_threads v.shape) k (omega arith) (omega arith)
-        (λ j u ne. ap (packet_w f v.shape (reach_of w)) (get_or-set_other v.pending k j o None ne)) in
+    (λ j u ne. ap (packet_w f v.shape (reach_of w)) (get_or-set_other v.pending k j o None ne)) in
     let b = ap (packet_w f v.shape (reach_of w)) (get_or-set_same v.pending k o None within) in
     omega arith
 
@@ -109,9 +109,9 @@ send_reached got dropped w p a k v to bytes c can e =
 sees_held : (v : TileView) (k s : ℕ) → is_some (held_by v.pool k s) ≡ true → Holds v.pool k s
 sees_held v k s e = by (bit_at (slot_at v.pool s).holders k == 1) refl e
   where
-  by : (b : Bool) → (bit_at (slot_at v.pool s).holders k == 1) ≡ b → is_some (cond b (Some (slot_at v.pool s).bytes) None) ≡ true → Holds v.pool k s
-  by true h e = eqb-true _ _ h
-  by false h e = cc e
+    by : (b : Bool) → (bit_at (slot_at v.pool s).holders k == 1) ≡ b → is_some (cond b (Some (slot_at v.pool s).bytes) None) ≡ true → Holds v.pool k s
+    by true h e = eqb-true _ _ h
+    by false h e = cc e
 
 free_reached : (got : ℕ → List Letter) (dropped : List Letter) (w : WorldView) (p a k : ℕ) (v : TileView) (s : ℕ) → Place w p v a k → can_step k v ≡ true → (step_at_place k v).op ≡ op.Free s →
     Reached got dropped w (bag.Free a (seen_at v k) s ∷ []) (with_tile w p (next v k (op.Free s)))
@@ -174,12 +174,21 @@ hand_by got dropped w p a k v (s ∷ rest) c can e is some shaped =
         shown got dropped w,
         handed a s l (standing_letters (with_tile w p new)) before,
         same_refl w.shape (shown got dropped w),
-        (may_step got dropped w p a k v c can, own_op got dropped w p a k v op.Hand c e, (standing_letters (with_tile w p new), record {
-          slot = s;
-          first = ap first_of is;
-          key = ap (λ q. option_map (λ s. key_in (slot_at v.pool s).bytes) (first_of q)) is;
-          stands = first_stands got dropped w p a k s rest v c is;
-        }, first_leaves w p a k s rest v new c is (λ f. refl), refl)),
+        (
+          may_step got dropped w p a k v c can,
+          own_op got dropped w p a k v op.Hand c e,
+          (
+            standing_letters (with_tile w p new),
+            record {
+              slot = s;
+              first = ap first_of is;
+              key = ap (λ q. option_map (λ s. key_in (slot_at v.pool s).bytes) (first_of q)) is;
+              stands = first_stands got dropped w p a k s rest v c is;
+            },
+            first_leaves w p a k s rest v new c is (λ f. refl),
+            refl,
+          ),
+        ),
         record {
           threads = threads_after got dropped w p a k v new c refl;
           flight = record { each = λ test. refl };
@@ -220,9 +229,9 @@ kill_reached got dropped w p a k v value c can e =
     let before : BagState = with_own_step (program_of w) a (seen_at v k) (shown got dropped w) in
     let after : BagState = record before { held = put (held_of w) a (λ slot. None) } in
     let dead : is_dead (thread_of there a).state ≡ true =
-        sym (ap (λ (x : Thread). is_dead x.state) (threads_after got dropped w p a k v new c refl a c.stands.there))
-        ∙ (ap (λ x. is_dead (cond x (own_step (program_of w) a (seen_at v k) (shown got dropped w)).thread (thread_of w a)).state) (eq-eqb a a refl)
-        ∙ (ap (λ (r : Stepped). is_dead r.thread.state) (own_is got dropped w p a k v c) ∙ ap is_dead (op_fits v k (op.Kill value) can e))) in
+    sym (ap (λ (x : Thread). is_dead x.state) (threads_after got dropped w p a k v new c refl a c.stands.there))
+    ∙ (ap (λ x. is_dead (cond x (own_step (program_of w) a (seen_at v k) (shown got dropped w)).thread (thread_of w a)).state) (eq-eqb a a refl)
+    ∙ (ap (λ (r : Stepped). is_dead r.thread.state) (own_is got dropped w p a k v c) ∙ ap is_dead (op_fits v k (op.Kill value) can e))) in
     let gone : List Letter = dropped ++ queued v k in
     record {
       now = got;
@@ -237,25 +246,25 @@ kill_reached got dropped w p a k v value c can e =
           sym (ap (λ o. ended_by o a before) (own_op got dropped w p a k v (op.Kill value) c e)),
         ),
         run_before (program_of w) after (record (shown got dropped there) { flight = queued v k ++ standing_letters there }) (shown got gone there) (map bag.Discard (queued v k))
-        (record {
-          threads = threads_after got dropped w p a k v new c refl;
-          flight = same_bag _ _ (λ f.
-              let x = left_w f v k queues t.kept z.queues z.below z.few in
-              let d = tile_stands f w p v new (sum_by f (queued v k)) 0 c.on (omega arith) in
-              let q = sum_by-append f (queued v k) (standing_letters there) in
-              omega arith);
-          got = λ b h. refl;
-          held = λ b slot h. ap (λ (x : ℕ → Option Letter). x slot) (lift_put held_in w p a k v new (λ s. None) c.good c.on c.stands
-              (left_here v k queues (omega arith))
-              (λ j u ne. left_others v k j queues (omega arith) (let same = ap tile_threads t.shape in omega arith) ne) b h);
-          dropped = refl;
-          host = refl;
-          script = refl;
-          host_sends = refl;
-          announcements = refl;
-        })
-        (discards (program_of w) (shown got dropped there) (queued v k) (standing_letters there) dropped
-        (queue_for_dead w.shape (shown got dropped there) v a k (queue_at v.pool k) (address_is w p a k v c) c.stands.there dead)),
+            (record {
+              threads = threads_after got dropped w p a k v new c refl;
+              flight = same_bag _ _ (λ f.
+                  let x = left_w f v k queues t.kept z.queues z.below z.few in
+                  let d = tile_stands f w p v new (sum_by f (queued v k)) 0 c.on (omega arith) in
+                  let q = sum_by-append f (queued v k) (standing_letters there) in
+                  omega arith);
+              got = λ b h. refl;
+              held = λ b slot h. ap (λ (x : ℕ → Option Letter). x slot) (lift_put held_in w p a k v new (λ s. None) c.good c.on c.stands
+                  (left_here v k queues (omega arith))
+                  (λ j u ne. left_others v k j queues (omega arith) (let same = ap tile_threads t.shape in omega arith) ne) b h);
+              dropped = refl;
+              host = refl;
+              script = refl;
+              host_sends = refl;
+              announcements = refl;
+            })
+            (discards (program_of w) (shown got dropped there) (queued v k) (standing_letters there) dropped
+            (queue_for_dead w.shape (shown got dropped there) v a k (queue_at v.pool k) (address_is w p a k v c) c.stands.there dead)),
       );
       good = good_lift w p v new c.good c.on (record { shape = t.shape; shaped = shaped_after w p a k v (op.Kill value) c can e; kept = left_kept v.pool k z.queues t.kept; part = t.part });
       program = program_stays w p v new c.on refl;

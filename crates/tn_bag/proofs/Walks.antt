@@ -131,7 +131,7 @@ by_part : (got : ℕ → List Letter) (dropped : List Letter) (e : Event) (w new
 by_part got dropped e w new p None good here is = cc is
 by_part got dropped e w new p (Some AbsentV) good here is = cc is
 by_part got dropped e w new p (Some (TileV v)) good here is =
-    by_row got dropped e w new p v (tile_row e v) good (record { within = slice_get_within w.parts p (TileV v) here; is = get_or_from_slice_get w.parts p (TileV v) AbsentV here }) refl is
+    by_row got dropped e w new p v (tile_row e v) good (record { within = slice_get_within w.parts p (TileV v) here; below = let h = slice_get_within w.parts p (TileV v) here in let n = good.count in omega arith; is = get_or_from_slice_get w.parts p (TileV v) AbsentV here }) refl is
 
 by_place : (got : ℕ → List Letter) (dropped : List Letter) (e : Event) (w new : WorldView) (o : Option ℕ) → Good w → happened_at e w o ≡ Some new → Reached got dropped w (part_steps (reach_of w) e (option_and_then (slice_get w.parts) o)) new
 by_place got dropped e w new None good is = cc is

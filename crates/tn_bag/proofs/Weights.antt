@@ -9,6 +9,7 @@ use Rattle.tn_base.specs.declared.port.Port.{Port}
 use Rattle.tn_base.specs.declared.port.Port.TheVariants as port
 use Rattle.tn_base.specs.declared.shape.ShapeNumbers.{ShapeNumbers}
 use Rattle.tn_base.specs.Address.{tile_threads}
+use Rattle.tn_base.specs.Parts.{part_count}
 use Rattle.tn_slots.specs.Pool.{slot_at}
 use Rattle.tn_tile.specs.declared.buffers.Buffers.{Buffers}
 use Rattle.tn_tile.specs.Rows.{buffer_at}
@@ -19,7 +20,7 @@ use Rattle.tn_rows.specs.WorldView.{WorldView}
 use Rattle.tn_bag.specs.declared.place.Place.{Place}
 use Rattle.tn_bag.specs.declared.place.Place.TheVariants as place
 use Rattle.tn_bag.specs.Letters.{Reach, SameBag, packet_letters}
-use Rattle.tn_bag.specs.Standing.{owed_standing, part_standing, pending_standing, ports, slots_standing, standing, standing_letters, transit_standing, waiting}
+use Rattle.tn_bag.specs.Standing.{owed_standing, part_standing, pending_standing, ports, slots_standing, standing, standing_letters, standing_on, transit_standing, waiting}
 use Rattle.tn_bag.specs.Tiles.{letter_in, reach_of}
 use Rattle.tn_bag.proofs.Sums.{sum_below, sum_flat, sum_map, sum_only, sum_same}
 
@@ -55,7 +56,7 @@ part_w w reach AbsentV = 0
 abbrev second : (Letter → ℕ) → Place × Letter → ℕ
 second w q = w q.1
 
-waiting_w : (w : Letter → ℕ) (v : TileView) (reach : Reach) (at : Place) (o : Option Packet) → sum_by (second w) (waiting v reach at o) ≡ packet_w w v.shape reach o
+waiting_w : (w : Letter → ℕ) (v : TileView) (reach : Reach) (at : Place) (o : Option Packet) → sum_by (second w) (waiting v.shape reach at o) ≡ packet_w w v.shape reach o
 waiting_w w v reach at None = refl
 waiting_w w v reach at (Some p) = sum_map (second w) (λ l. (at, l)) (packet_letters v.shape reach p)
 
@@ -70,8 +71,8 @@ sum_ports f = omega arith
 transit_is : (w : Letter → ℕ) (reach : Reach) (p : ℕ) (v : TileView) → sum_by (second w) (transit_standing reach p v) ≡ buffers_w w v.shape reach v.transit
 transit_is w reach p v =
     let at : Port → Place = λ way. place.Transit (record { 0 = p }) way in
-    let a = sum_flat (second w) (λ way. waiting v reach (at way) (buffer_at way v.transit)) ports in
-    let b = sum_ports (λ way. sum_by (second w) (waiting v reach (at way) (buffer_at way v.transit))) in
+    let a = sum_flat (second w) (λ way. waiting v.shape reach (at way) (buffer_at way v.transit)) ports in
+    let b = sum_ports (λ way. sum_by (second w) (waiting v.shape reach (at way) (buffer_at way v.transit))) in
     let e = waiting_w w v reach (at port.East) v.transit.east in
     let f = waiting_w w v reach (at port.West) v.transit.west in
     let g = waiting_w w v reach (at port.South) v.transit.south in
@@ -99,8 +100,8 @@ part_is w reach p (TileV v) =
     all
 part_is w reach p AbsentV = refl
 
-pub standing_is : (w : Letter → ℕ) (v : WorldView) → sum_by w (standing_letters v) ≡ sum_by (λ p. part_w w (reach_of v) (get_or v.parts p AbsentV)) (range_with_len 0 (length v.parts))
+pub standing_is : (w : Letter → ℕ) (v : WorldView) → sum_by w (standing_letters v) ≡ sum_by (λ p. part_w w (reach_of v) (get_or v.parts p AbsentV)) (range_with_len 0 (part_count v.shape))
 standing_is w v =
     sum_map w (λ (q : Place × Letter). q.1) (standing v)
-    ∙ sum_below (second w) (length v.parts) _
-    ∙ sum_same _ (λ p. part_w w (reach_of v) (get_or v.parts p AbsentV)) 0 (length v.parts) (λ p l u. part_is w (reach_of v) p (get_or v.parts p AbsentV))
+    ∙ sum_below (second w) (part_count v.shape) (standing_on v)
+    ∙ sum_same _ (λ p. part_w w (reach_of v) (get_or v.parts p AbsentV)) 0 (part_count v.shape) (λ p l u. part_is w (reach_of v) p (get_or v.parts p AbsentV))

@@ -49,9 +49,13 @@ held_in v k s = if bit_at (slot_at v.pool s).holders k == 1 then Some (letter_in
 abbrev pub held_of : WorldView → ℕ → ℕ → Option Letter
 held_of w a s = held_in (tile_for w a) (place_in_tile w.shape a) s
 
--- where keys lead: no router of the machine has tables yet, so each key leads nowhere
+-- without tables a key leads nowhere
+abbrev pub no_reach : Reach
+no_reach board key bytes = []
+
+-- where the keys of the machine lead: no router has tables yet
 abbrev pub reach_of : WorldView → Reach
-reach_of w board key bytes = []
+reach_of w = no_reach
 
 -- what no event changes
 abbrev pub program_of : WorldView → Program

@@ -4,5 +4,7 @@
 #![tactic(auto)]
 
 pub mod laws;
+mod letters;
 pub mod place;
+pub mod places;
 pub mod steps;
