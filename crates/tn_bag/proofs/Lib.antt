@@ -14,3 +14,4 @@ pub mod Walks
 pub mod Starts
 pub mod Loops
 pub mod Made
+pub mod Conserved

@@ -4,4 +4,5 @@ pub mod Machine
 pub mod Tiles
 pub mod Standing
 pub mod Steps
+pub mod Conserved
 pub mod Law

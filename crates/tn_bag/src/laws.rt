@@ -1,6 +1,7 @@
 //! Laws of runs. A law answers nothing: its contract is what it says.
 
 ghost use Rattle.tn_rows.specs.Runs.{Run};
+ghost use Rattle.tn_bag.specs.Conserved.{EveryRunConserves};
 ghost use Rattle.tn_bag.specs.Law.{IsBagRun, IsStart};
 
 use tn_base::event::Event;
@@ -12,4 +13,10 @@ pub fn law_flight(start: &World, history: &[Event], end: &World)
     requires start { IsStart start.now }
     requires run { Run start.now history.now end.now }
     ensures { IsBagRun start.now history.now end.now }
+{}
+
+/// Letters are conserved in each run of the bag machine: those that were in flight and those that its steps sent are those
+/// in flight at its end and those that were handed, taken by the host or dropped, each as often.
+pub fn law_letters()
+    ensures { EveryRunConserves }
 {}
