@@ -8,3 +8,5 @@ mod letters;
 pub mod place;
 pub mod places;
 pub mod steps;
+#[cfg(test)]
+mod tests;
