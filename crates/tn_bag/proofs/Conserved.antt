@@ -1,5 +1,5 @@
 -- Each step takes from the bag in flight what leaves, and adds what it sends.
-use Rattle.std.proofs.Common.{ℕ, ◌+◌, ◌≡◌, Bool, true, false, cond, List, [], ◌∷◌, ◌++◌, refl, sym, ◌∙◌, ap, subst, arith, Option, Some, None, unwrap_or, sum_by}
+use Rattle.std.proofs.Common.{ℕ, ◌+◌, ◌≡◌, Bool, cond, List, [], ◌∷◌, ◌++◌, refl, sym, ◌∙◌, ap, arith, Option, Some, unwrap_or, sum_by}
 use Rattle.std.specs.List.{flat_map}
 use Rattle.std.proofs.lemmas.List.Sums.{sum_by-append, sum_by-cons}
 use Rattle.tn_base.specs.declared.message.Letter.{Letter}
@@ -8,7 +8,7 @@ use Rattle.tn_base.specs.declared.op.Op.TheVariants as op
 use Rattle.tn_bag.specs.declared.steps.BagStep.{BagStep}
 use Rattle.tn_bag.specs.declared.steps.BagStep.TheVariants as bag
 use Rattle.tn_bag.specs.Conserved.{EveryRunConserves, leaving, sending, sent_in, sent_with}
-use Rattle.tn_bag.specs.Letters.{SameBag, Takes, letters}
+use Rattle.tn_bag.specs.Letters.{Takes}
 use Rattle.tn_bag.specs.Machine.{BagRun, Happens, ended_by, own_step, sent_by, with_own_step}
 use Rattle.tn_bag.specs.State.{BagState, Program}
 
