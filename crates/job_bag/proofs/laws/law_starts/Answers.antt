@@ -1,0 +1,5 @@
+use Rattle.job_bag.proofs.Starts.{accepted_start}
+use Rattle.job_bag.proofs.laws.law_starts.Goals as goal
+
+pub returns : goal.returns
+returns c = accepted_start

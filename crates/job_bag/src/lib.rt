@@ -1,0 +1,4 @@
+//! What the runs of jobs mean.
+#![tactic(auto)]
+
+pub mod laws;

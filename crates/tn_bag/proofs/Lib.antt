@@ -1,0 +1,17 @@
+pub mod Sums
+pub mod Weights
+pub mod Lift
+pub mod Slots
+pub mod Holding
+pub mod Fits
+pub mod Runs
+pub mod Simulate
+pub mod Threads
+pub mod Receivers
+pub mod Delivery
+pub mod PartKinds
+pub mod Walks
+pub mod Starts
+pub mod Loops
+pub mod Made
+pub mod Conserved

@@ -1,0 +1,70 @@
+-- Letters: what one packet is for each of its receivers. Bags: letters in no order.
+use Rattle.std.specs.Prelude.{ℕ, ◌≡◌, ◌%◌, ◌==◌, Bool, List, [], ◌∷◌, map, count_by, if◌then◌else◌}
+use Rattle.std.specs.Int.{bit_at}
+use Rattle.std.specs.List.{flat_map, range_with_len}
+use Rattle.tn_base.specs.declared.ids.Board.{Board}
+use Rattle.tn_base.specs.declared.message.Dest.{Dest}
+use Rattle.tn_base.specs.declared.message.Dest.TheVariants as dest
+use Rattle.tn_base.specs.declared.message.Letter.{Letter}
+use Rattle.tn_base.specs.declared.message.Packet.{Packet}
+use Rattle.tn_base.specs.declared.shape.ShapeNumbers.{ShapeNumbers}
+use Rattle.tn_base.specs.Address.{in_tile, tile_threads}
+use Rattle.tn_base.specs.Ports.{board_x, board_y}
+
+-- the address of the host, as an origin and as a receiver
+abbrev pub host_address : ℕ
+host_address = 0x40000000
+
+-- what a keyed message is for one of its receivers: its bytes may begin with a local key
+pub record Copy : Type 0 where
+  pub receiver : ℕ
+  pub bytes : List ℕ
+
+-- where keys lead: from a board, by a key, the copies of a message of these bytes, in order
+abbrev pub Reach : Type 0
+Reach = Board → ℕ → List ℕ → List Copy
+
+-- the board of an address; the host's is the first one
+abbrev pub board_of : ℕ → Board
+board_of a = record { x = board_x a; y = board_y a }
+
+abbrev pub letter : ℕ → ℕ → ℕ → List ℕ → Letter
+letter origin number receiver bytes = record { origin = origin; number = number; receiver = receiver; bytes = bytes }
+
+-- an element where a test holds, else none
+abbrev pub only_if : {A : Type 0} → Bool → A → List A
+only_if holds x = if holds then x ∷ [] else []
+
+-- what each number below a count gives, in order
+abbrev pub each_below : {A : Type 0} → ℕ → (ℕ → List A) → List A
+each_below count f = flat_map f (range_with_len 0 count)
+
+-- a letter for each thread of a tile, by ascending address, that the mask names: its bit is core * 16 + thread, the low
+-- six bits of the address
+abbrev pub masked_letters : ShapeNumbers → ℕ → ℕ → ℕ → ℕ → List ℕ → List Letter
+masked_letters n origin number tile mask bytes =
+    each_below (tile_threads n) (λ k. only_if (bit_at mask (in_tile n tile k % 64) == 1) (letter origin number (in_tile n tile k) bytes))
+
+-- the letters of a packet where its key is looked up at a board: one for a thread or the host, one for each thread that
+-- a mask names, and one for each copy that a key leads to
+abbrev pub letters_from : Board → ShapeNumbers → Reach → ℕ → ℕ → Dest → List ℕ → List Letter
+letters_from board n reach origin number (dest.Thread t) bytes = letter origin number t.0 bytes ∷ []
+letters_from board n reach origin number dest.Host bytes = letter origin number host_address bytes ∷ []
+letters_from board n reach origin number (dest.Mask tile mask) bytes = masked_letters n origin number tile.0 mask bytes
+letters_from board n reach origin number (dest.Key key) bytes = map (λ (c : Copy). letter origin number c.receiver c.bytes) (reach board key bytes)
+
+-- the letters of a send: its key is looked up at the sender's board
+abbrev pub letters : ShapeNumbers → Reach → ℕ → ℕ → Dest → List ℕ → List Letter
+letters n reach origin number to bytes = letters_from (board_of origin) n reach origin number to bytes
+
+-- the letters of a packet that did not come to a router yet
+abbrev pub packet_letters : ShapeNumbers → Reach → Packet → List Letter
+packet_letters n reach p = letters n reach p.origin p.number p.dest p.bytes
+
+-- two bags are the same: each test is passed by as many letters of the one as of the other
+pub record SameBag (xs ys : List Letter) : Type 0 where
+  pub each : (test : Letter → Bool) → count_by test xs ≡ count_by test ys
+
+-- the bag is this letter and the rest: the letter leaves it once
+abbrev pub Takes : List Letter → Letter → List Letter → Type 0
+Takes bag l rest = SameBag bag (l ∷ rest)

@@ -1,0 +1,62 @@
+-- The states of the bag machine that a machine of tiles shows.
+use Rattle.std.specs.Prelude.{ℕ, ◌==◌, [], Option, Some, None, slice_index_or, if◌then◌else◌}
+use Rattle.std.specs.Int.{bit_at}
+use Rattle.tn_base.specs.declared.message.Letter.{Letter}
+use Rattle.tn_base.specs.Address.{in_tile, place_in_tile, tile_of, tile_place}
+use Rattle.tn_base.specs.Parts.{tile_part}
+use Rattle.tn_slots.specs.Pool.{slot_at}
+use Rattle.tn_thread.specs.declared.thread.Thread.{Thread}
+use Rattle.tn_tile.specs.declared.tile.Sender.{Sender}
+use Rattle.tn_tile.specs.Kept.{fresh_tile}
+use Rattle.tn_tile.specs.Step.{no_thread, thread_at}
+use Rattle.tn_tile.specs.TileView.{TileView}
+use Rattle.tn_rows.specs.PartView.{PartView, TileV, AbsentV}
+use Rattle.tn_rows.specs.WorldView.{WorldView}
+use Rattle.tn_bag.specs.Letters.{Reach, letter}
+use Rattle.tn_bag.specs.State.{Program}
+
+-- what stands where there is no tile
+abbrev pub no_tile : TileView
+no_tile = fresh_tile no_thread.shape 0 [] []
+
+abbrev pub tile_in : PartView → TileView
+tile_in (TileV v) = v
+tile_in AbsentV = no_tile
+
+-- the part of the tile that the thread at an address is on, and the tile
+abbrev pub part_for : WorldView → ℕ → ℕ
+part_for w a = tile_part (tile_place w.shape (tile_of a))
+
+abbrev pub tile_for : WorldView → ℕ → TileView
+tile_for w a = tile_in (slice_index_or w.parts (part_for w a) AbsentV)
+
+-- the thread at an address
+abbrev pub thread_of : WorldView → ℕ → Thread
+thread_of w a = thread_at (tile_for w a) (place_in_tile w.shape a)
+
+-- whose packet a slot has
+abbrev pub sender_at : TileView → ℕ → Sender
+sender_at v s = slice_index_or v.senders s (record { origin = 0; number = 0 })
+
+-- the letter that a slot has for the thread at a place of the tile
+abbrev pub letter_in : TileView → ℕ → ℕ → Letter
+letter_in v k s = letter (sender_at v s).origin (sender_at v s).number (in_tile v.shape v.tile k) (slot_at v.pool s).bytes
+
+-- the letter that the thread at a place has in a slot, where it holds the slot
+abbrev pub held_in : TileView → ℕ → ℕ → Option Letter
+held_in v k s = if bit_at (slot_at v.pool s).holders k == 1 then Some (letter_in v k s) else None
+
+abbrev pub held_of : WorldView → ℕ → ℕ → Option Letter
+held_of w a s = held_in (tile_for w a) (place_in_tile w.shape a) s
+
+-- without tables a key leads nowhere
+abbrev pub no_reach : Reach
+no_reach board key bytes = []
+
+-- where the keys of the machine lead: no router has tables yet
+abbrev pub reach_of : WorldView → Reach
+reach_of w = no_reach
+
+-- what no event changes
+abbrev pub program_of : WorldView → Program
+program_of w = record { shape = w.shape; code = λ a. (tile_for w a).code; reach = reach_of w }

@@ -1,0 +1,22 @@
+//! Laws of runs. A law answers nothing: its contract is what it says.
+
+ghost use Rattle.tn_rows.specs.Runs.{Run};
+ghost use Rattle.tn_bag.specs.Conserved.{EveryRunConserves};
+ghost use Rattle.tn_bag.specs.Law.{IsBagRun, IsStart};
+
+use tn_base::event::Event;
+use tn_world::world::World;
+
+/// Each run of a machine from its start is a run of the bag machine: what a thread is handed was sent to it, and a letter
+/// that is neither handed nor dropped stands in a named place.
+pub fn law_flight(start: &World, history: &[Event], end: &World)
+    requires start { IsStart start.now }
+    requires run { Run start.now history.now end.now }
+    ensures { IsBagRun start.now history.now end.now }
+{}
+
+/// Letters are conserved in each run of the bag machine: those that were in flight and those that its steps sent are those
+/// in flight at its end and those that were handed, taken by the host or dropped, each as often.
+pub fn law_letters()
+    ensures { EveryRunConserves }
+{}

@@ -1,0 +1,188 @@
+//! The named places in which the letters of a machine stand.
+
+ghost use Rattle.std.specs.Prelude.{◌≡◌, ◌<◌, ◌++◌, IfOk, IsTrue, OnOk, MatchOption, length, map, option_copied};
+ghost use Rattle.tn_base.specs.Address.{tile_threads};
+ghost use Rattle.tn_base.specs.Message.{has_packet};
+ghost use Rattle.tn_bag.specs.Standing.{owed_standing, part_standing, pending_standing, slots_standing, standing, transit_standing, waiting};
+ghost use Rattle.tn_bag.specs.Tiles.{no_reach};
+
+use crate::letters::letters_of;
+use crate::place::Place;
+use std::alloc::{AllocError, Global};
+use tn_base::ids::PartId;
+use tn_base::message::{Letter, Packet};
+use tn_base::port::Port;
+use tn_tile::tile::Tile;
+use tn_world::part::Part;
+use tn_world::world::World;
+
+/// All letters that were sent and are neither handed nor dropped, each with its place: by part, then by the kind of
+/// place, then by what names it.
+pub fn standing(alloc: Global, world: &World) -> Result<Vec<(Place, Letter)>, AllocError>
+    ensures { IfOk result (λ all. all.items ≡ standing world.now) }
+{
+    let mut all = Vec::new(alloc);
+    for p in 0..world.shape().part_count() {
+        push_part(&mut all, alloc, p, world.part(PartId(p)))?;
+    }
+    Ok(all)
+}
+
+/// The letters on a part.
+fn push_part(
+    all: &mut Vec<(Place, Letter)>,
+    alloc: Global,
+    p: u32,
+    part: &Part,
+) -> Result<(), AllocError>
+    ensures { OnOk result (all.new.items ≡ all.old.items ++ part_standing no_reach p part.now) }
+{
+    let Some(tile) = part.as_tile() else {
+        return Ok(());
+    };
+    push_pending(all, alloc, tile)?;
+    push_transit(all, alloc, p, tile)?;
+    push_slots(all, tile)
+}
+
+/// The letters of the packets that the threads of a tile sent.
+fn push_pending(
+    all: &mut Vec<(Place, Letter)>,
+    alloc: Global,
+    tile: &Tile,
+) -> Result<(), AllocError>
+    ensures { OnOk result (all.new.items ≡ all.old.items ++ pending_standing no_reach tile.now) }
+{
+    tile.kept();
+    let _numbers = tile.shape().numbers();
+    for place in 0..tile.shape().tile_threads() {
+        let thread = tile.shape().thread_in_tile(tile.name(), place);
+        push_packet(
+            all,
+            alloc,
+            tile,
+            Place::Pending(thread),
+            tile.pending(thread),
+        )?;
+    }
+    Ok(())
+}
+
+/// The letters of the packets that go on from a tile.
+fn push_transit(
+    all: &mut Vec<(Place, Letter)>,
+    alloc: Global,
+    p: u32,
+    tile: &Tile,
+) -> Result<(), AllocError>
+    ensures { OnOk result (all.new.items ≡ all.old.items ++ transit_standing no_reach p tile.now) }
+{
+    tile.kept();
+    let part = PartId(p);
+    push_packet(
+        all,
+        alloc,
+        tile,
+        Place::Transit(part, Port::East),
+        tile.buffer(Port::East),
+    )?;
+    push_packet(
+        all,
+        alloc,
+        tile,
+        Place::Transit(part, Port::West),
+        tile.buffer(Port::West),
+    )?;
+    push_packet(
+        all,
+        alloc,
+        tile,
+        Place::Transit(part, Port::South),
+        tile.buffer(Port::South),
+    )?;
+    push_packet(
+        all,
+        alloc,
+        tile,
+        Place::Transit(part, Port::North),
+        tile.buffer(Port::North),
+    )?;
+    push_packet(
+        all,
+        alloc,
+        tile,
+        Place::Transit(part, Port::Up),
+        tile.buffer(Port::Up),
+    )?;
+    Ok(())
+}
+
+/// The letters of a packet that waits at a place.
+fn push_packet(
+    all: &mut Vec<(Place, Letter)>,
+    alloc: Global,
+    tile: &Tile,
+    place: Place,
+    packet: Option<&Packet>,
+) -> Result<(), AllocError>
+    requires { MatchOption packet (Unit {0}) (λ p. IsTrue (has_packet tile.now.shape p.now)) }
+    ensures { OnOk result (all.new.items ≡ all.old.items ++ waiting tile.now.shape no_reach place (option_copied packet.entry)) }
+{
+    let Some(packet) = packet else {
+        return Ok(());
+    };
+    let letters = letters_of(alloc, &tile.shape(), packet)?;
+    push_letters(all, place, &letters)?;
+    Ok(())
+}
+
+/// Letters at one place.
+fn push_letters(
+    all: &mut Vec<(Place, Letter)>,
+    place: Place,
+    letters: &[Letter],
+) -> Result<(), AllocError>
+    ensures { OnOk result (all.new.items ≡ all.old.items ++ map (λ l. (place, l)) letters.now) }
+{
+    for letter in letters {
+        all.push((place, letter.copy()))?;
+    }
+    Ok(())
+}
+
+/// The letters in the slots of a tile.
+fn push_slots(all: &mut Vec<(Place, Letter)>, tile: &Tile) -> Result<(), AllocError>
+    ensures { OnOk result (all.new.items ≡ all.old.items ++ slots_standing tile.now) }
+{
+    tile.kept();
+    let count = tile.shape().numbers().slots;
+    for slot in 0..count {
+        push_owed(all, tile, slot as u16)?;
+    }
+    Ok(())
+}
+
+/// The letters in one slot, for the threads that are owed it.
+fn push_owed(all: &mut Vec<(Place, Letter)>, tile: &Tile, slot: u16) -> Result<(), AllocError>
+    requires { slot < length tile.now.pool.slots }
+    ensures { OnOk result (all.new.items ≡ all.old.items ++ owed_standing tile.now slot) }
+{
+    tile.kept();
+    let Some((origin, number)) = tile.sender(slot) else {
+        return Ok(());
+    };
+    let found = &tile.pool().slots()[slot as usize];
+    for place in 0..tile.shape().tile_threads() {
+        if found.owed.has(place) {
+            let thread = tile.shape().thread_in_tile(tile.name(), place);
+            let letter = Letter {
+                origin,
+                number,
+                receiver: thread.0,
+                bytes: found.bytes.copy(),
+            };
+            all.push((Place::Slot(tile.name(), slot, thread), letter))?;
+        }
+    }
+    Ok(())
+}
