@@ -1,14 +1,16 @@
 -- Each step takes from the bag in flight what leaves, and adds what it sends.
-use Rattle.std.proofs.Common.{ℕ, ◌+◌, ◌≡◌, Bool, cond, List, [], ◌∷◌, ◌++◌, refl, sym, ◌∙◌, ap, arith, Option, Some, unwrap_or, sum_by}
+use Rattle.std.proofs.Common.{true, false, ℕ, ◌+◌, ◌≡◌, Bool, cond, List, [], ◌∷◌, ◌++◌, refl, sym, ◌∙◌, ap, arith, Option, Some, unwrap_or, sum_by, ◌==◌, append_assoc}
 use Rattle.std.specs.List.{flat_map}
+use Rattle.std.proofs.lemmas.Bool.{eqb-true}
+use Rattle.std.proofs.lemmas.List.{append-nil}
 use Rattle.std.proofs.lemmas.List.Sums.{sum_by-append, sum_by-cons}
 use Rattle.tn_base.specs.declared.message.Letter.{Letter}
 use Rattle.tn_base.specs.declared.op.Op.{Op}
 use Rattle.tn_base.specs.declared.op.Op.TheVariants as op
 use Rattle.tn_bag.specs.declared.steps.BagStep.{BagStep}
 use Rattle.tn_bag.specs.declared.steps.BagStep.TheVariants as bag
-use Rattle.tn_bag.specs.Conserved.{EveryRunConserves, leaving, sending, sent_in, sent_with}
-use Rattle.tn_bag.specs.Letters.{Takes}
+use Rattle.tn_bag.specs.Conserved.{EveryRunConserves, EveryRunHands, handed_to, leaving, sending, sent_in, sent_with}
+use Rattle.tn_bag.specs.Letters.{Takes, only_if}
 use Rattle.tn_bag.specs.Machine.{BagRun, Happens, ended_by, own_step, sent_by, with_own_step}
 use Rattle.tn_bag.specs.State.{BagState, Program}
 
@@ -94,3 +96,48 @@ every_run_conserves m start end steps run = record {
       let all : passing test (start.flight ++ sent_in m start steps end run) ≡ passing test (end.flight ++ flat_map leaving steps) = omega arith in
       all;
 }
+
+-- ---- what threads got
+
+ended_got : (o : Op) (b : ℕ) (s : BagState) (a : ℕ) → (ended_by o b s).got a ≡ s.got a
+ended_got op.None b s a = refl
+ended_got (op.Send to bytes) b s a = refl
+ended_got op.Hand b s a = refl
+ended_got (op.Free slot) b s a = refl
+ended_got (op.Idle vote) b s a = refl
+ended_got (op.Kill value) b s a = refl
+ended_got (op.Trap why) b s a = refl
+
+sent_got : (m : Program) (b number : ℕ) (o : Op) (s new : BagState) (a : ℕ) → sent_by m b number o s ≡ Some new → new.got a ≡ s.got a
+sent_got m b number (op.Send to bytes) s new a e = sym (ap (λ (x : Option BagState). (unwrap_or x new).got a) e)
+sent_got m b number op.None s new a e = cc e
+sent_got m b number op.Hand s new a e = cc e
+sent_got m b number (op.Free slot) s new a e = cc e
+sent_got m b number (op.Idle vote) s new a e = cc e
+sent_got m b number (op.Kill value) s new a e = cc e
+sent_got m b number (op.Trap why) s new a e = cc e
+
+one_got : (got : ℕ → List Letter) (a b : ℕ) (l : Letter) (same : Bool) → (a == b) ≡ same → cond same (got b ++ l ∷ []) (got a) ≡ got a ++ only_if same l
+one_got got a b l true e = ap (λ c. got c ++ l ∷ []) (sym (eqb-true a b e))
+one_got got a b l false e = sym (append-nil (got a))
+
+none_got : (old new : List Letter) → new ≡ old → new ≡ old ++ []
+none_got old new e = e ∙ sym (append-nil old)
+
+step_hands : (m : Program) (step : BagStep) (old new : BagState) (a : ℕ) → Happens m step old new → new.got a ≡ old.got a ++ handed_to a step
+step_hands m (bag.Private b seen) old new a h = none_got (old.got a) (new.got a) (ap (λ (s : BagState). s.got a) h.2 ∙ ended_got (own_step m b seen old).op b (with_own_step m b seen old) a)
+step_hands m (bag.Send b seen) old new a h = none_got (old.got a) (new.got a) (sent_got m b (old.threads b).sends (own_step m b seen old).op (with_own_step m b seen old) new a h.1)
+step_hands m (bag.Hand b seen l) old new a h = ap (λ (s : BagState). s.got a) h.2.3 ∙ one_got old.got a b l (a == b) refl
+step_hands m (bag.Free b seen slot) old new a h = none_got (old.got a) (new.got a) (ap (λ (s : BagState). s.got a) h.2)
+step_hands m (bag.Idle b seen vote) old new a h = none_got (old.got a) (new.got a) (ap (λ (s : BagState). s.got a) h.2)
+step_hands m bag.Announce old new a h = none_got (old.got a) (new.got a) (ap (λ (s : BagState). s.got a) h.1)
+step_hands m (bag.HostSend l) old new a h = none_got (old.got a) (new.got a) (ap (λ (s : BagState). s.got a) h.4)
+step_hands m (bag.HostHand l) old new a h = none_got (old.got a) (new.got a) (ap (λ (s : BagState). s.got a) h.3)
+step_hands m (bag.Discard l) old new a h = none_got (old.got a) (new.got a) (ap (λ (s : BagState). s.got a) h.4)
+
+pub every_run_hands : EveryRunHands
+every_run_hands m start end [] a there run = sym (run.got a there) ∙ sym (append-nil (start.got a))
+every_run_hands m start end (step ∷ steps) a there run =
+    every_run_hands m run.1 end steps a there run.4
+    ∙ (ap (λ (ls : List Letter). ls ++ flat_map (handed_to a) steps) (step_hands m step run.0 run.1 a run.3 ∙ ap (λ (ls : List Letter). ls ++ handed_to a step) (sym (run.2.got a there)))
+    ∙ append_assoc (start.got a) (handed_to a step) (flat_map (handed_to a) steps))

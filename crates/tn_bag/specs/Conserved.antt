@@ -1,12 +1,13 @@
 -- No letter is made or lost but by a step that says so.
-use Rattle.std.specs.Prelude.{ℕ, List, [], ◌∷◌, ◌++◌}
+use Rattle.std.specs.Prelude.{ℕ, ◌≡◌, ◌==◌, IsTrue, List, [], ◌∷◌, ◌++◌}
 use Rattle.std.specs.List.{flat_map}
 use Rattle.tn_base.specs.declared.message.Letter.{Letter}
 use Rattle.tn_base.specs.declared.op.Op.{Op}
 use Rattle.tn_base.specs.declared.op.Op.TheVariants as op
 use Rattle.tn_bag.specs.declared.steps.BagStep.{BagStep}
 use Rattle.tn_bag.specs.declared.steps.BagStep.TheVariants as bag
-use Rattle.tn_bag.specs.Letters.{SameBag, letters}
+use Rattle.tn_base.specs.Address.{has_thread}
+use Rattle.tn_bag.specs.Letters.{SameBag, letters, only_if}
 use Rattle.tn_bag.specs.Machine.{BagRun, own_step}
 use Rattle.tn_bag.specs.State.{BagState, Program}
 
@@ -48,3 +49,19 @@ sent_in m start (step ∷ steps) end run = sending m step run.0 ++ sent_in m run
 -- taken by the host or dropped
 abbrev pub EveryRunConserves : Type 0
 EveryRunConserves = (m : Program) (start end : BagState) (steps : List BagStep) (run : BagRun m start steps end) → SameBag (start.flight ++ sent_in m start steps end run) (end.flight ++ flat_map leaving steps)
+
+-- the letter that a step hands to the thread at an address, if it does
+abbrev pub handed_to : ℕ → BagStep → List Letter
+handed_to a (bag.Private b seen) = []
+handed_to a (bag.Send b seen) = []
+handed_to a (bag.Hand b seen l) = only_if (a == b) l
+handed_to a (bag.Free b seen slot) = []
+handed_to a (bag.Idle b seen vote) = []
+handed_to a bag.Announce = []
+handed_to a (bag.HostSend l) = []
+handed_to a (bag.HostHand l) = []
+handed_to a (bag.Discard l) = []
+
+-- what a thread got is what it had got before and what the steps handed to it, in their order
+abbrev pub EveryRunHands : Type 0
+EveryRunHands = (m : Program) (start end : BagState) (steps : List BagStep) (a : ℕ) → IsTrue (has_thread m.shape a) → BagRun m start steps end → end.got a ≡ start.got a ++ flat_map (handed_to a) steps

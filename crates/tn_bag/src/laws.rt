@@ -1,7 +1,7 @@
 //! Laws of runs. A law answers nothing: its contract is what it says.
 
 ghost use Rattle.tn_rows.specs.Runs.{Run};
-ghost use Rattle.tn_bag.specs.Conserved.{EveryRunConserves};
+ghost use Rattle.tn_bag.specs.Conserved.{EveryRunConserves, EveryRunHands};
 ghost use Rattle.tn_bag.specs.Law.{IsBagRun, IsStart};
 
 use tn_base::event::Event;
@@ -16,7 +16,9 @@ pub fn law_flight(start: &World, history: &[Event], end: &World)
 {}
 
 /// Letters are conserved in each run of the bag machine: those that were in flight and those that its steps sent are those
-/// in flight at its end and those that were handed, taken by the host or dropped, each as often.
+/// in flight at its end and those that were handed, taken by the host or dropped, each as often. And a thread got what the
+/// steps handed to it, in their order.
 pub fn law_letters()
-    ensures { EveryRunConserves }
+    ensures conserved { EveryRunConserves }
+    ensures handed { EveryRunHands }
 {}
