@@ -9,12 +9,19 @@ ghost use Rattle.job_text.specs.declared.job.Job.{Job};
 ghost use Rattle.job_load.specs.Loaded.{loaded};
 ghost use Rattle.tn_bag.specs.Law.{IsBagRun, IsStart};
 
+use job_load::laws::{law_memory, law_start};
+
 /// The start of each job that is accepted is one of the bag machine's law.
 pub fn law_starts()
     ensures { (job : Job) (start : WorldView) → loaded job ≡ Ok start → IsStart start }
-{}
+{
+    law_start();
+    law_memory();
+}
 
 /// Each run of an accepted job from its start is a run of the bag machine.
 pub fn law_jobs()
     ensures { (job : Job) (start : WorldView) (history : List Event) (end : WorldView) → loaded job ≡ Ok start → Run start history end → IsBagRun start history end }
-{}
+{
+    law_starts();
+}
