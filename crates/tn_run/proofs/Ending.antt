@@ -1,6 +1,13 @@
 -- How a run ends.
 use Rattle.std.proofs.Common.{◌≡◌, ℕ, ◌-◌, ◌<◌, List, [], ◌∷◌, length, refl, arith, zero, suc, Some, ◌∙◌}
+use Rattle.std.proofs.Common.{IfOk}
+use Rattle.std.specs.declared.result.Result.{Result}
+use Rattle.std.specs.declared.result.Result.TheVariants.{Ok, Err}
 use Rattle.std.specs.List.{slice_get}
+use Rattle.job_load.specs.declared.fault.LoadFault.{LoadFault}
+use Rattle.job_load.specs.declared.fault.LoadStop.{LoadStop}
+use Rattle.job_load.specs.Gives.{Gives}
+use Rattle.tn_bag.specs.Law.{IsStart}
 use Rattle.tn_base.specs.declared.event.Event.{Event}
 use Rattle.tn_rows.specs.Ends.{final_after, final_of, last_of}
 use Rattle.tn_rows.specs.Runs.{LongRun, Run}
@@ -27,3 +34,8 @@ run_of start (e ∷ es) end h = (h.0, h.1, h.3, run_of h.0 es end h.4)
 -- the last event tells how the run ended
 pub final_at : (events : List Event) (e : Event) (w : WorldView) → slice_get events (length events - 1) ≡ Some e → final_after (last_of events) w ≡ final_of e w
 final_at events e w h = rw (last_is events, h) refl
+
+-- what is loaded is a start, if each machine that loading gives is one
+pub started : (r : Result WorldView LoadStop) (loaded : Result WorldView LoadFault) → Gives r loaded → ((w : WorldView) → loaded ≡ Ok w → IsStart w) → IfOk r IsStart
+started (Ok w) loaded g all = all w g
+started (Err stop) loaded g all = tt

@@ -8,6 +8,7 @@ use Rattle.job_load.specs.Names.{name_of_text}
 use Rattle.job_text.specs.declared.job.Job.{Job}
 use Rattle.job_text.specs.declared.job.JobFault.{JobFault}
 use Rattle.job_text.specs.Text.{job_of}
+use Rattle.tn_bag.specs.Law.{IsBagRun}
 use Rattle.tn_base.specs.declared.event.Outcome.{Outcome}
 use Rattle.tn_rows.specs.Ends.{IsOutcome}
 use Rattle.tn_rows.specs.Runs.{Run}
@@ -34,12 +35,14 @@ status_of (Outcome.BadKey key) = Status.BadKey
 status_of (Outcome.Spent thread) = Status.Spent
 status_of Outcome.Jammed = Status.Jammed
 
--- the kept history is a run of the machine to its end, and the status and the text tell how it ended
+-- the kept history is a run of the machine to its end, and of the bag machine that says what messages mean; and the status
+-- and the text tell how it ended
 pub record IsRunOf (start : WorldView) (kept : KeptView) (status : Status) (text : List ℕ) : Type 0 where
   pub kept_start : kept.start ≡ Some start
   pub end : WorldView
   pub outcome : Outcome
   pub run : Run start kept.history end
+  pub means : IsBagRun start kept.history end
   pub ended : IsOutcome kept.history end outcome
   pub status_is : status ≡ status_of outcome
   pub text_is : text ≡ report_text end outcome

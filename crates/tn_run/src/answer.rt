@@ -1,6 +1,7 @@
 //! From an input to its answer.
 ghost use Rattle.std.specs.Prelude.{⊤, ◌≡◌, ◌≤◌, IfOk, MatchOption, length, None, []};
 ghost use Rattle.job_load.specs.Gives.{Gives};
+ghost use Rattle.tn_bag.specs.Law.{IsStart};
 ghost use Rattle.tn_rows.specs.Ends.{IsOutcome, final_after, last_of};
 ghost use Rattle.tn_rows.specs.Events.{Rests};
 ghost use Rattle.tn_run.specs.Answer.{IsAnswer, IsRunOf, machine_of};
@@ -9,11 +10,13 @@ use crate::history::History;
 use crate::kept::Kept;
 use crate::report::{refusal, report};
 use crate::status::Status;
+use job_bag::laws::law_starts;
 use job_load::fault::{FaultName, LoadFault, LoadStop};
 use job_load::load::load;
 use job_text::job::JobStop;
 use job_text::read::read_job;
 use std::alloc::{AllocError, Global};
+use tn_bag::laws::law_flight;
 use tn_base::event::{Event, Outcome};
 use tn_text::lines::law_line_count;
 use tn_world::events::{final_of, rest_outcome};
@@ -33,9 +36,11 @@ pub struct Output {
 /// The machine of an input, at its start.
 fn load_input(alloc: Global, input: &[u8]) -> Result<World, LoadStop>
     requires { length input.now ≤ 16777216 }
-    ensures { Gives result (machine_of input.now) }
+    ensures machine { Gives result (machine_of input.now) }
+    ensures start { IfOk result IsStart }
 {
     law_line_count(input);
+    law_starts();
     match read_job(alloc, input) {
         Ok(job) => load(alloc, &job),
         Err(JobStop::Memory) => Err(LoadStop::Memory),
@@ -64,18 +69,20 @@ fn outcome_of(world: &World, history: &[Event]) -> Outcome
     }
 }
 
-/// Runs a machine and reports.
+/// Runs a machine and reports. The run is one of the bag machine, since the machine is at its start.
 fn run(alloc: Global, start: World, kept: &mut Kept) -> Result<Output, AllocError>
+    requires start { IsStart start }
     requires history { kept.old.history ≡ [] }
     ensures { IfOk result (λ output. IsRunOf start kept.new output.status output.text.items) }
 {
     let mut world = start.copy()?;
-    kept.start = Some(start);
     let events = play(&mut world, MOST_EVENTS)?;
     if events.len() as u64 >= MOST_EVENTS {
         return Err(AllocError);
     }
+    law_flight(&start, &events, &world);
     let outcome = outcome_of(&world, &events);
+    kept.start = Some(start);
     kept.history = History::from(events);
     let text = report(alloc, &world, outcome)?;
     Ok(Output {
