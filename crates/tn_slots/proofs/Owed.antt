@@ -156,3 +156,8 @@ first_none (s ∷ rest) e = absurd cc
 pub first_is : (queue : List ℕ) (s : ℕ) → first_of queue ≡ Some s → queue ≡ s ∷ drop 1 queue
 first_is [] s e = absurd cc
 first_is (x ∷ queue) s e = let f : x ≡ s = cc in ap (λ y. y ∷ queue) f
+
+-- queues with equal slots have equal slots at each place
+pub slots_at : (xs ys : List QueueModel) (i : ℕ) (p q : QueueModel) → i < length xs → i < length ys → p ≡ get_or xs i p → q ≡ get_or ys i q → map slots_of xs ≡ map slots_of ys → p.slots ≡ q.slots
+slots_at xs ys i p q h l here there same =
+    ap slots_of here ∙ (sym (get_or-map slots_of xs i p [] h) ∙ (ap (λ qs. get_or qs i []) same ∙ (get_or-map slots_of ys i q [] l ∙ ap slots_of (sym there))))

@@ -246,6 +246,15 @@ impl Pool {
         })
     }
 
+    /// Whether two pools are equal, but for the spare room of their queues.
+    pub fn same(&self, other: &Pool) -> bool
+        ensures { IsTrue result ↔ (self.now ≡ other.now) }
+    {
+        self.slot_bytes == other.slot_bytes
+            && same_slots(&self.slots, &other.slots)
+            && self.queues.same(&other.queues)
+    }
+
     /// The least slot that nobody is owed or holds.
     fn first_free(&self) -> Option<usize>
         ensures first { result ≡ first_free self.now }
@@ -276,4 +285,19 @@ fn copy_slots(slots: &Vec<Slot>) -> Result<Vec<Slot>, AllocError>
         all.push(slot.copy())?;
     }
     Ok(all)
+}
+
+/// Whether the slots are equal, and in the same order.
+fn same_slots(a: &Vec<Slot>, b: &Vec<Slot>) -> bool
+    ensures { IsTrue result ↔ (a.now.items ≡ b.now.items) }
+{
+    if a.len() != b.len() {
+        return false;
+    }
+    for i in 0..a.len() {
+        if !a[i].same(&b[i]) {
+            return false;
+        }
+    }
+    true
 }

@@ -1,6 +1,6 @@
 //! The slots that each thread of a pool is owed.
 
-ghost use Rattle.std.specs.Prelude.{◌≡◌, ◌≤◌, ◌<◌, ◌++◌, ◌∷◌, [], ℕ, length, drop, replicate, slice_index_or, slice_set, IfOk};
+ghost use Rattle.std.specs.Prelude.{◌≡◌, ◌≤◌, ◌<◌, ◌↔◌, ◌++◌, ◌∷◌, [], ℕ, length, drop, map, replicate, slice_index_or, slice_set, IfOk, IsTrue};
 ghost use Rattle.std.specs.Int.{bit_at};
 ghost use Rattle.tn_slots.specs.QueueModel.{QueueModel, QueuesModel};
 ghost use Rattle.tn_slots.specs.Queues.{Appended, Copied, appended, first_of, no_queue, slots_in};
@@ -74,6 +74,13 @@ impl Queue {
         slots.reserve(room - slots.len())?;
         Ok(Queue { slots })
     }
+
+    /// Whether two queues hold equal slots in the same order.
+    fn same(&self, other: &Queue) -> bool
+        ensures { IsTrue result ↔ (self.now.slots ≡ other.now.slots) }
+    {
+        self.slots == other.slots
+    }
 }
 
 /// Puts the slot at the end of the queue of each thread of the mask.
@@ -101,6 +108,21 @@ fn copy_queues(queues: &Vec<Queue>, room: usize) -> Result<Vec<Queue>, AllocErro
         all.push(queue.copy(room)?)?;
     }
     Ok(all)
+}
+
+/// Whether the queues hold equal slots in the same order.
+fn same_queues(a: &Vec<Queue>, b: &Vec<Queue>) -> bool
+    ensures { IsTrue result ↔ (map (λ (q : QueueModel). q.slots) a.now.items ≡ map (λ (q : QueueModel). q.slots) b.now.items) }
+{
+    if a.len() != b.len() {
+        return false;
+    }
+    for i in 0..a.len() {
+        if !a[i].same(&b[i]) {
+            return false;
+        }
+    }
+    true
 }
 
 /// The queues of a pool's threads. They never take memory after `of`.
@@ -194,5 +216,12 @@ impl Queues {
             queues,
             room: self.room,
         })
+    }
+
+    /// Whether the queues are equal, but for how many slots they have room for.
+    pub(crate) fn same(&self, other: &Queues) -> bool
+        ensures { IsTrue result ↔ (self.now.queues ≡ other.now.queues) }
+    {
+        same_queues(&self.queues, &other.queues)
     }
 }

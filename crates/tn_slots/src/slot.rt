@@ -1,6 +1,6 @@
 //! One slot of a pool.
 
-ghost use Rattle.std.specs.Prelude.{◌≡◌, replicate};
+ghost use Rattle.std.specs.Prelude.{◌≡◌, ◌↔◌, IsTrue, replicate};
 ghost use Rattle.tn_slots.specs.Slot.{fresh_slot, is_free};
 
 use tn_base::bytes::Bytes;
@@ -43,6 +43,13 @@ impl Slot {
             owed: self.owed,
             holders: self.holders,
         }
+    }
+
+    /// Whether two slots are equal.
+    pub(crate) fn same(&self, other: &Slot) -> bool
+        ensures { IsTrue result ↔ (self.now ≡ other.now) }
+    {
+        self.bytes == other.bytes && self.owed == other.owed && self.holders == other.holders
     }
 }
 

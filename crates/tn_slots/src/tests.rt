@@ -79,10 +79,12 @@ fn two_receivers(rt: HostRuntime) -> Result<(), Fail> {
     assert!(rt; free(&mut pool, 1, 0));
     assert_eq!(rt; put(&mut pool, [8, 0], 4), Some(1));
     let copied = pool.copy()?;
+    assert!(rt; pool.same(&copied));
     if 2 < pool.thread_count() {
         assert_eq!(rt; pool.leave(2), 2);
         assert_eq!(rt; pool.queue_len(2), 0);
     }
+    assert!(rt; !pool.same(&copied));
     assert_eq!(rt; put(&mut pool, [9, 0], 1), Some(0));
     if 2 < copied.thread_count() {
         assert_eq!(rt; copied.first(2), Some(0));
