@@ -7,3 +7,4 @@ pub mod Turns
 pub mod Packed
 pub mod Packets
 pub mod Fresh
+mod Fields

@@ -10,6 +10,7 @@ pub mod deliver;
 pub mod laws;
 mod receivers;
 mod rest;
+mod same;
 mod sight;
 pub mod step;
 #[cfg(test)]

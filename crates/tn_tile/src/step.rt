@@ -1,17 +1,18 @@
 //! Steps and turns of threads.
 
-ghost use Rattle.std.specs.Prelude.{◌≡◌, ◌≤◌, ◌<◌, ◌+◌, ◌/◌, ◌^◌, IsTrue, is_some, slice_get};
+ghost use Rattle.std.specs.Prelude.{◌≡◌, ◌≤◌, ◌<◌, ◌+◌, ◌/◌, ◌^◌, IfOk, IsTrue, is_some, slice_get};
 ghost use Rattle.tn_base.specs.Address.{place_in_tile, tile_threads};
 ghost use Rattle.tn_thread.specs.Fits.{StepFits};
 ghost use Rattle.tn_thread.specs.Step.{FitsStep, runnable};
 ghost use Rattle.tn_tile.specs.Rows.{can_count, is_here, turn_row};
-ghost use Rattle.tn_tile.specs.Step.{can_step, fetched_at, next_step, stepped};
+ghost use Rattle.tn_tile.specs.Step.{can_step, fetched_at, next_step, step_at_place, stepped};
 ghost use Rattle.tn_tile.specs.Turns.{StepsUpTo, TurnIs};
 
 use crate::sight::TileSight;
 use crate::tile::Tile;
 use rv_exec::exec::exec;
 use rv_isa::instr::Instr;
+use std::alloc::AllocError;
 use tn_base::effect::Effect;
 use tn_base::event::Trap;
 use tn_base::ids::ThreadId;
@@ -71,9 +72,26 @@ impl Tile {
         made
     }
 
+    /// What the next step of a thread asks of the tile. It is found on a copy of the thread.
+    pub fn asks(&self, t: ThreadId) -> Result<Op, AllocError>
+        requires here { IsTrue (is_here t.0 self.now) }
+        requires can { IsTrue (can_step (place_in_tile self.now.shape t.0) self.now) }
+        ensures { IfOk result (λ op. op ≡ (step_at_place (place_in_tile self.now.shape t.0) self.now).op) }
+    {
+        let place = self.shape.place_in_tile(t);
+        let at = place as usize;
+        let sight = TileSight {
+            pool: &self.pool,
+            place,
+            can_send: self.pending[at].is_none(),
+        };
+        let mut thread = self.threads[at].copy()?;
+        Ok(advance(&self.code, &mut thread, &sight))
+    }
+
     /// Whether the thread at a place can make a step.
     #[inline(always)]
-    fn can_step(&self, place: u32) -> bool
+    pub fn can_step(&self, place: u32) -> bool
         requires { place < tile_threads self.now.shape }
         ensures { result ≡ can_step place self.now }
     {

@@ -15,6 +15,7 @@ use tn_base::event::Trap;
 use tn_base::ids::{ThreadId, TileId};
 use tn_base::mask::Mask;
 use tn_base::message::{Dest, Packet};
+use tn_base::op::Op;
 use tn_base::port::Port;
 use tn_base::shape::{Shape, ShapeNumbers};
 use tn_thread::state::ThreadState;
@@ -80,6 +81,15 @@ fn steps(tile: &mut Tile, id: u32, most: u32) -> u32 {
     } else {
         0
     }
+}
+
+/// What the next step of a thread asks, where it can make one.
+fn asks(tile: &Tile, id: u32) -> Result<Option<Op>, AllocError> {
+    let t = ThreadId(id);
+    if !tile.is_here(t) || !tile.can_step(tile.shape.place_in_tile(t)) {
+        return Ok(None);
+    }
+    Ok(Some(tile.asks(t)?))
 }
 
 /// Whether what a thread sent is delivered.
@@ -190,12 +200,32 @@ fn traps(alloc: Global, version: u32, words: &[u32], why: Trap) -> Result<bool, 
     Ok(does(&tile, 0, ThreadState::Trapped(why)) && tile.ended() == Some((ThreadId(0), why)))
 }
 
+/// Whether the fifth step of a thread that sends to itself asks for that send, and asking changes nothing.
+fn asks_to_send(alloc: Global) -> Result<bool, Fail> {
+    let mut tile = first_tile(alloc, machine(1, 1, 1), &TO_ITSELF)?;
+    let start = tile.copy()?;
+    let first = asks(&tile, 0)?;
+    let made = steps(&mut tile, 0, 4);
+    let before = tile.copy()?;
+    let fifth = asks(&tile, 0)?;
+    let message = Bytes::of(&[0; 16])?.with_front(&[77]);
+    let sends = Op::Send(Dest::Thread(ThreadId(0)), message);
+    Ok(
+        first == Some(Op::None)
+            && made == 4
+            && fifth == Some(sends)
+            && tile.same(&before)
+            && !tile.same(&start),
+    )
+}
+
 #[test]
 fn one_thread(rt: HostRuntime) -> Result<(), Fail> {
     let dies = [0x8030_1073, 0x8060_1073, 0x80b0_1073];
     assert!(rt; ends(rt.alloc(), 1, &TO_ITSELF, ThreadState::Dead(77), 0)?);
     assert!(rt; ends(rt.alloc(), 2, &EIGHT_FLITS, ThreadState::Dead(77), 0)?);
     assert!(rt; ends(rt.alloc(), 1, &dies, ThreadState::Dead(0), 1)?);
+    assert!(rt; asks_to_send(rt.alloc())?);
     Ok(())
 }
 
