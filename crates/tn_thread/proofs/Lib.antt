@@ -1,3 +1,4 @@
 pub mod Commands
 pub mod Fits
 pub mod Same
+pub mod AloneSteps

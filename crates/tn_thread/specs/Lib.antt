@@ -1,3 +1,4 @@
+pub mod Alone
 pub mod Command
 pub mod Fits
 pub mod Memory

@@ -4,6 +4,7 @@
 //! thread, the new thread and what it asks of its tile. Read `Thread::apply` first.
 #![tactic(auto)]
 
+pub mod alone;
 pub mod command;
 pub mod memory;
 pub mod place;

@@ -1,6 +1,6 @@
 //! One step of a thread.
 
-ghost use Rattle.std.specs.Prelude.{◌≡◌, ◌≤◌, ◌<◌, ◌+◌, ◌*◌, ◌^◌, ◌≢◌, IsTrue};
+ghost use Rattle.std.specs.Prelude.{◌≡◌, ◌≤◌, ◌<◌, ◌+◌, ◌*◌, ◌%◌, ◌==◌, ◌^◌, ◌≢◌, IsTrue};
 ghost use Rattle.tn_thread.specs.Fits.{StepFits};
 ghost use Rattle.tn_base.specs.Effects.{is_width};
 ghost use Rattle.tn_thread.specs.Memory.{extended, sign_filled, value_at};
@@ -171,13 +171,13 @@ impl Thread {
 
     /// What `width` bytes from an address on are.
     #[inline(always)]
-    fn place(&self, addr: u32, width: u8) -> Place
+    pub(crate) fn place(&self, addr: u32, width: u8) -> Place
         requires { IsTrue (is_width width) }
         ensures value { result ≡ place_of addr width self.now }
         ensures within { IsWithin width self.now result }
     {
         let end = addr as usize + width as usize;
-        if addr % u32::from(width) != 0 {
+        if !is_aligned(addr, width) {
             return Place::Misaligned;
         }
         if end <= self.mem.len() {
@@ -382,9 +382,22 @@ impl Thread {
     }
 }
 
+/// Whether a width of 1, 2 or 4 divides an address. It divides by no number that is not known here: that is slow.
+#[inline(always)]
+fn is_aligned(addr: u32, width: u8) -> bool
+    requires { IsTrue (is_width width) }
+    ensures { result ≡ (addr % width == 0) }
+{
+    match width {
+        1 => true,
+        2 => addr % 2 == 0,
+        _ => addr % 4 == 0,
+    }
+}
+
 /// A value of `width` bytes as a word: its sign fills the higher bytes where it is signed, zeros do else.
 #[inline(always)]
-fn extend(width: u8, signed: bool, value: u32) -> u32
+pub(crate) fn extend(width: u8, signed: bool, value: u32) -> u32
     ensures { result ≡ extended width signed value }
 {
     match width {
@@ -409,7 +422,8 @@ fn fill_sign(size: u32, value: u32) -> u32
 }
 
 /// The number of `width` bytes, 1, 2 or 4, at a place of a message; bytes past its end are 0.
-fn message_value(message: &Bytes, at: usize, width: u8) -> u32
+#[inline(always)]
+pub(crate) fn message_value(message: &Bytes, at: usize, width: u8) -> u32
     requires { at < 2 ^ 32 }
     ensures { result ≡ value_at message.now at width }
 {

@@ -8,3 +8,5 @@ pub mod Packed
 pub mod Packets
 pub mod Fresh
 mod Fields
+pub mod Runs
+pub mod Turned

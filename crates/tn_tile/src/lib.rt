@@ -4,6 +4,7 @@
 //! event makes of a tile stands in `specs/Rows.antt`. Read `Tile::turn` and `Tile::deliver` first.
 #![tactic(auto)]
 
+mod alone;
 pub mod buffers;
 mod copy;
 pub mod deliver;

@@ -64,10 +64,11 @@ impl Tile {
         ensures { StepsUpTo (place_in_tile self.old.shape t.0) most result self.old self.new }
     {
         let place = self.shape.place_in_tile(t);
-        let mut made = 0;
+        let mut made = self.run_alone(place, most);
         while made < most && self.can_step(place) {
             self.step(place);
             made += 1;
+            made += self.run_alone(place, most - made);
         }
         made
     }
