@@ -10,7 +10,7 @@ use tn_base::bytes::Bytes;
 
 /// The number of `width` bytes at a place, the lowest byte first.
 #[inline(always)]
-fn value_at(bytes: &[u8], at: usize, width: u8) -> u32
+pub(crate) fn value_at(bytes: &[u8], at: usize, width: u8) -> u32
     requires width { IsTrue (is_width width) }
     requires within { at + width ≤ length bytes.now }
     ensures { result ≡ value_at bytes.now at width }

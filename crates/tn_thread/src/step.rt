@@ -7,6 +7,7 @@ ghost use Rattle.tn_thread.specs.Memory.{extended, sign_filled, value_at};
 ghost use Rattle.tn_thread.specs.Registers.{register_of};
 ghost use Rattle.tn_thread.specs.Step.{FitsStep, IsWithin, Stepped, answered, completed, dest_of, freed, got, is_idle, loaded, place_of, read_by, resumed, runnable, sent, stepped, stored, trapped, went, went_to, write_by, write_row};
 
+use crate::memory::value_at as bytes_value;
 use crate::place::Place;
 use crate::register::Register;
 use crate::state::{Target, ThreadState, WaitSet};
@@ -424,6 +425,19 @@ fn fill_sign(size: u32, value: u32) -> u32
 /// The number of `width` bytes, 1, 2 or 4, at a place of a message; bytes past its end are 0.
 #[inline(always)]
 pub(crate) fn message_value(message: &Bytes, at: usize, width: u8) -> u32
+    requires at { at < 2 ^ 32 }
+    requires width { IsTrue (is_width width) }
+    ensures { result ≡ value_at message.now at width }
+{
+    let bytes = message.as_slice();
+    if at + usize::from(width) <= bytes.len() {
+        return bytes_value(bytes, at, width);
+    }
+    past_value(message, at, width)
+}
+
+/// The same, where some of the bytes are past the end.
+fn past_value(message: &Bytes, at: usize, width: u8) -> u32
     requires { at < 2 ^ 32 }
     ensures { result ≡ value_at message.now at width }
 {
