@@ -1,3 +1,4 @@
+pub mod Blocks
 pub mod Limits
 pub mod Listing
 pub mod Masks
@@ -5,4 +6,5 @@ pub mod NamesThreads
 pub mod PartCount
 pub mod Places
 pub mod Products
+pub mod TileLinks
 pub mod TilePlaces

@@ -35,14 +35,6 @@ impl Links {
         }
     }
 
-    /// How many links there are.
-    pub(crate) fn len(&self) -> u32
-        ensures value { result ≡ length self.now }
-        ensures few { result ≤ 5 }
-    {
-        self.count as u32
-    }
-
     /// The link at a place.
     pub(crate) fn get(&self, at: u32) -> Kind
         requires { at < length self.now }

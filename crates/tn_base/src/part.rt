@@ -1,6 +1,7 @@
 //! The parts of a machine: the host, the tiles, the routers, the links between them, the detector.
 
 ghost use Rattle.std.specs.Prelude.{◌≡◌, ◌<◌, ◌≤◌, ◌+◌, ◌*◌, ◌^◌, length, slice_index_or};
+ghost use Rattle.std.specs.List.{flat_map, range_with_len};
 ghost use Rattle.tn_base.specs.Parts.{all_router_links, all_tile_links, board_at, board_count, board_tiles, from_host_links, from_router_links, from_routers, from_tile_links, from_tiles, kind_of, link, part_count, router_links, router_part, tile_at, tile_count, tile_links, visited};
 
 use crate::address::split;
@@ -162,16 +163,54 @@ impl Shape {
         links
     }
 
+    /// How many links lead away from the `i`-th tile.
+    fn count_links_of_tile(&self, i: u32) -> u32
+        ensures value { result ≡ length (tile_links self.now i) }
+        ensures few { result ≤ 5 }
+    {
+        let n = self.numbers();
+        let x = i % n.tiles_x;
+        let y = i / n.tiles_x % n.tiles_y;
+        u32::from(x + 1 < n.tiles_x)
+            + u32::from(0 < x)
+            + u32::from(y + 1 < n.tiles_y)
+            + u32::from(0 < y)
+            + u32::from(i % self.board_tiles() == 0)
+    }
+
+    /// How many links lead away from the `i`-th board's router to its first tile and to other routers.
+    fn count_links_of_router(&self, i: u32) -> u32
+        requires { i < 16 }
+        ensures value { result ≡ length (router_links self.now i) }
+        ensures few { result ≤ 5 }
+    {
+        let n = self.numbers();
+        let board = self.board_at(i);
+        1 + u32::from(board.x + 1 < n.boards_x)
+            + u32::from(0 < board.x)
+            + u32::from(board.y + 1 < n.boards_y)
+            + u32::from(0 < board.y)
+    }
+
+    /// How many links lead away from the tiles of one board: as many as from those of any other.
+    fn board_links(&self) -> u32
+        ensures value { result ≡ length (flat_map (tile_links self.now) (range_with_len 0 (board_tiles self.now))) }
+        ensures some { 0 < result }
+        ensures few { result ≤ 5 * 16 }
+    {
+        let mut count = 0;
+        for tile in 0..self.board_tiles() {
+            count += self.count_links_of_tile(tile);
+        }
+        count
+    }
+
     /// How many links lead away from tiles.
     fn count_tile_links(&self) -> u32
         ensures value { result ≡ length (all_tile_links self.now) }
         ensures few { result ≤ 5 * 256 }
     {
-        let mut count = 0;
-        for tile in 0..self.tile_count() {
-            count += self.tile_links(tile).len();
-        }
-        count
+        self.board_count() * self.board_links()
     }
 
     /// How many links lead away from routers to tiles and to other routers.
@@ -181,7 +220,7 @@ impl Shape {
     {
         let mut count = 0;
         for board in 0..self.board_count() {
-            count += self.router_links(board).len();
+            count += self.count_links_of_router(board);
         }
         count
     }
@@ -214,13 +253,16 @@ impl Shape {
     fn from_tile_links(&self, i: u32) -> Kind
         ensures { result ≡ slice_index_or (from_tile_links self.now) i Kind.Detector }
     {
-        let mut rest = i;
-        for tile in 0..self.tile_count() {
-            let links = self.tile_links(tile);
-            if rest < links.len() {
-                return links.get(rest);
+        // Each board has as many links, so those before the link's own are passed over at once.
+        let board_links = self.board_links();
+        let board = (i / board_links).min(self.board_count());
+        let mut rest = i - board * board_links;
+        for tile in board * self.board_tiles()..self.tile_count() {
+            let count = self.count_links_of_tile(tile);
+            if rest < count {
+                return self.tile_links(tile).get(rest);
             }
-            rest -= links.len();
+            rest -= count;
         }
         self.from_router_links(rest)
     }
@@ -231,11 +273,11 @@ impl Shape {
     {
         let mut rest = i;
         for board in 0..self.board_count() {
-            let links = self.router_links(board);
-            if rest < links.len() {
-                return links.get(rest);
+            let count = self.count_links_of_router(board);
+            if rest < count {
+                return self.router_links(board).get(rest);
             }
-            rest -= links.len();
+            rest -= count;
         }
         self.from_host_links(rest)
     }

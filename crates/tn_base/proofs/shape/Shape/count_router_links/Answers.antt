@@ -1,4 +1,4 @@
-use Rattle.std.proofs.Common.{◌≡◌, ◌<◌, length, ap, ◌∙◌, arith}
+use Rattle.std.proofs.Common.{◌<◌, arith}
 use Rattle.tn_base.specs.Parts.{router_links, board_count}
 use Rattle.tn_base.proofs.Listing.{length_first}
 use Rattle.tn_base.proofs.shape.Shape.count_router_links.Goals as goal
@@ -7,7 +7,6 @@ pub loop-board-preserved : goal.loop-board-preserved
 loop-board-preserved c =
     let n = c.args.self.now in
     let h : c.loop-board.board < board_count n = omega arith in
-    let long : c.len-count.result ≡ length (router_links n c.loop-board.board) = c.len-count.ensures.value ∙ ap length c.router_links.ensures in
     record {
       counted = omega (arith, length_first (router_links n) c.loop-board.board (board_count n) h);
       few = omega arith;

@@ -1,14 +1,9 @@
-use Rattle.std.proofs.Common.{◌≡◌, ◌<◌, length, ap, ◌∙◌, arith}
-use Rattle.tn_base.specs.Parts.{tile_links, tile_count}
-use Rattle.tn_base.proofs.Listing.{length_first}
+use Rattle.std.proofs.Common.{◌<◌, sym, arith}
+use Rattle.tn_base.proofs.TileLinks.{all_tile_links_long, board_links, some_board_tiles}
 use Rattle.tn_base.proofs.shape.Shape.count_tile_links.Goals as goal
 
-pub loop-tile-preserved : goal.loop-tile-preserved
-loop-tile-preserved c =
+pub returns-clause-value : goal.returns-clause-value
+returns-clause-value c =
     let n = c.args.self.now in
-    let h : c.loop-tile.tile < tile_count n = omega arith in
-    let long : c.len-count.result ≡ length (tile_links n c.loop-tile.tile) = c.len-count.ensures.value ∙ ap length c.tile_links.ensures in
-    record {
-      counted = omega (arith, length_first (tile_links n) c.loop-tile.tile (tile_count n) h);
-      few = omega arith;
-    }
+    let some : 0 < board_links n = omega arith in
+    rw (c.board_count.ensures.value, c.board_links.ensures.value) (sym (all_tile_links_long n (some_board_tiles n some)))

@@ -1,17 +1,16 @@
-use Rattle.std.proofs.Common.{◌≡◌, ◌<◌, ◌≤◌, ◌-◌, ◌+◌, length, get_or, ap, sym, ◌∙◌, arith}
+use Rattle.std.proofs.Common.{◌<◌, ◌≤◌, ◌-◌, ◌+◌, length, get_or, ap, sym, ◌∙◌, arith}
 use Rattle.tn_base.specs.Parts.{router_links, board_count, from_host_links}
 use Rattle.tn_base.specs.declared.part.Kind.TheVariants.{Detector}
 use Rattle.tn_base.proofs.Listing.{rest_from, rest_here, rest_behind, rest_done}
 use Rattle.tn_base.proofs.shape.Shape.from_router_links.Goals as goal
 
-pub returns-then-rest-len : goal.returns-then-rest-len
-returns-then-rest-len c =
+pub returns-then-rest-count : goal.returns-then-rest-count
+returns-then-rest-count c =
     let n = c.args.self.now in
     let h : c.loop-board.board < board_count n = omega arith in
-    let long : c.len.result ≡ length (router_links n c.loop-board.board) = c.len.ensures.value ∙ ap length c.router_links-links.ensures in
     let within : c.loop-board.rest < length (router_links n c.loop-board.board) = omega arith in
     c.get.ensures
-    ∙ ap (λ links. get_or links c.loop-board.rest Detector) c.router_links-links.ensures
+    ∙ ap (λ links. get_or links c.loop-board.rest Detector) c.router_links.ensures
     ∙ sym (rest_here (router_links n) c.loop-board.board (board_count n) c.loop-board.rest (from_host_links n) Detector h within)
     ∙ c.loop-board.invariant
 
@@ -19,9 +18,8 @@ pub loop-board-preserved : goal.loop-board-preserved
 loop-board-preserved c =
     let n = c.args.self.now in
     let h : c.loop-board.board < board_count n = omega arith in
-    let long : c.len-rest.result ≡ length (router_links n c.loop-board.board) = c.len-rest.ensures.value ∙ ap length c.router_links-links.ensures in
-    let past : length (router_links n c.loop-board.board) ≤ c.loop-board.rest = omega (arith, c.len.ensures.value, c.len-rest.ensures.value) in
-    ap (λ k. get_or (rest_from (router_links n) (c.loop-board.board + 1) (board_count n) (from_host_links n)) (c.loop-board.rest - k) Detector) long
+    let past : length (router_links n c.loop-board.board) ≤ c.loop-board.rest = omega arith in
+    ap (λ k. get_or (rest_from (router_links n) (c.loop-board.board + 1) (board_count n) (from_host_links n)) (c.loop-board.rest - k) Detector) c.count_links_of_router-count.ensures.value
     ∙ sym (rest_behind (router_links n) c.loop-board.board (board_count n) c.loop-board.rest (from_host_links n) Detector h past)
     ∙ c.loop-board.invariant
 
