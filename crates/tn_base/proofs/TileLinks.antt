@@ -1,6 +1,6 @@
 -- The links of tiles: as many on each board.
 use Rattle.std.proofs.Common.{ℕ, ◌≡◌, ◌≤◌, ◌<◌, ◌+◌, ◌-◌, ◌*◌, ◌/◌, ◌%◌, ◌++◌, List, Bool, true, false, length, get_or, zero, suc, refl, arith, sym, ap, length-append, nat_lt, ◌==◌, if◌then◌else◌, ◌∙◌}
-use Rattle.std.proofs.Math.Nat.{add-mul-mod_self_right, add-mul-div_right, zero-mod}
+use Rattle.std.proofs.Math.Nat.{add-mod_right, add-mul-mod_self_right, add-mul-div_right, zero-mod}
 use Rattle.std.specs.List.{flat_map, range_with_len}
 use Rattle.tn_base.specs.declared.shape.ShapeNumbers.{ShapeNumbers}
 use Rattle.tn_base.specs.declared.part.Kind.{Kind}
@@ -47,12 +47,8 @@ tile_links_repeat n h i =
     let of_x : i + n.tiles_x * n.tiles_y ≡ i + n.tiles_y * n.tiles_x = omega arith in
     let x : (i + n.tiles_x * n.tiles_y) % n.tiles_x ≡ i % n.tiles_x = ap (λ k. k % n.tiles_x) of_x ∙ add-mul-mod_self_right i n.tiles_y n.tiles_x in
     let row : (i + n.tiles_x * n.tiles_y) / n.tiles_x ≡ i / n.tiles_x + n.tiles_y = ap (λ k. k / n.tiles_x) of_x ∙ add-mul-div_right i n.tiles_y (some_factor n.tiles_x n.tiles_y h) in
-    let of_y : i / n.tiles_x + n.tiles_y ≡ i / n.tiles_x + 1 * n.tiles_y = omega arith in
-    let y : (i + n.tiles_x * n.tiles_y) / n.tiles_x % n.tiles_y ≡ i / n.tiles_x % n.tiles_y =
-    ap (λ k. k % n.tiles_y) (row ∙ of_y) ∙ add-mul-mod_self_right (i / n.tiles_x) 1 n.tiles_y in
-    let of_board : i + n.tiles_x * n.tiles_y ≡ i + 1 * (n.tiles_x * n.tiles_y) = omega arith in
-    let first : (i + n.tiles_x * n.tiles_y) % (n.tiles_x * n.tiles_y) ≡ i % (n.tiles_x * n.tiles_y) =
-    ap (λ k. k % (n.tiles_x * n.tiles_y)) of_board ∙ add-mul-mod_self_right i 1 (n.tiles_x * n.tiles_y) in
+    let y : (i + n.tiles_x * n.tiles_y) / n.tiles_x % n.tiles_y ≡ i / n.tiles_x % n.tiles_y = ap (λ k. k % n.tiles_y) row ∙ add-mod_right (i / n.tiles_x) n.tiles_y in
+    let first : (i + n.tiles_x * n.tiles_y) % (n.tiles_x * n.tiles_y) ≡ i % (n.tiles_x * n.tiles_y) = add-mod_right i (n.tiles_x * n.tiles_y) in
     tile_links_long n (i + board_tiles n) ∙ rw (x, y, first) (sym (tile_links_long n i))
 
 -- how many links lead away from the tiles of a board
@@ -62,9 +58,8 @@ board_links n = length (flat_map (tile_links n) (range_with_len 0 (board_tiles n
 -- the first tile has at least the link to its router
 pub some_board_links : (n : ShapeNumbers) → 0 < board_tiles n → 0 < board_links n
 some_board_links n h =
-    let first : 0 < length (tile_links n 0) =
     let up : one (0 % board_tiles n == 0) ≡ 1 = rw (zero-mod (board_tiles n)) refl in
-    omega (arith, tile_links_long n 0, up) in
+    let first : 0 < length (tile_links n 0) = omega (arith, tile_links_long n 0, up) in
     let all : board_tiles n - 0 ≡ board_tiles n = omega arith in
     let whole : length_from (tile_links n) 0 (board_tiles n) ≡ board_links n = ap (λ k. length (flat_map (tile_links n) (range_with_len 0 k))) all in
     omega (arith, length_first (tile_links n) 0 (board_tiles n) h, whole, first)
