@@ -1,5 +1,6 @@
 pub mod Blocks
 pub mod Limits
+pub mod LinkEnds
 pub mod Listing
 pub mod Masks
 pub mod NamesThreads

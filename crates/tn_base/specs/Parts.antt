@@ -1,5 +1,5 @@
 -- The parts of a machine, in order: the host, the tiles, the routers, the links, the detector.
-use Rattle.std.specs.Prelude.{ℕ, ◌+◌, ◌-◌, ◌*◌, ◌/◌, ◌%◌, ◌==◌, ◌++◌, ◌∷◌, [], List, Bool, map, length, nat_lt, slice_index_or, if◌then◌else◌}
+use Rattle.std.specs.Prelude.{ℕ, ◌≤◌, ◌<◌, ◌≢◌, ◌+◌, ◌-◌, ◌*◌, ◌/◌, ◌%◌, ◌==◌, ◌++◌, ◌∷◌, [], List, Bool, map, length, nat_lt, slice_index_or, if◌then◌else◌}
 use Rattle.std.specs.List.{flat_map, range_with_len}
 use Rattle.tn_base.specs.declared.shape.ShapeNumbers.{ShapeNumbers}
 use Rattle.tn_base.specs.declared.ids.Board.{Board}
@@ -104,3 +104,11 @@ visited n = 1 + tile_count n + board_count n
 -- what part `p` is
 abbrev pub kind_of : ShapeNumbers → ℕ → Kind
 kind_of n p = slice_index_or (parts n) p Detector
+
+-- the link `l` stands behind the host, the tiles and the routers, and leads from one of these to another
+pub record JoinsVisited (n : ShapeNumbers) (l from onto : ℕ) : Type 0 where
+  pub behind : visited n ≤ l
+  pub there : l < part_count n
+  pub from_visited : from < visited n
+  pub onto_visited : onto < visited n
+  pub apart : from ≢ onto

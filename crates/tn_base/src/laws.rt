@@ -4,7 +4,8 @@ ghost use Rattle.std.specs.Prelude.{◌≡◌, ◌<◌, ◌↔◌, ◌/◌, ◌%
 ghost use Rattle.std.specs.Int.{bit_at};
 ghost use Rattle.tn_base.specs.Address.{has_thread, has_tile, in_tile, place_in_tile, thread_at, tile_of, tile_place, tile_threads};
 ghost use Rattle.tn_base.specs.Mask.{names_threads};
-ghost use Rattle.tn_base.specs.Parts.{kind_of, tile_at, tile_count, tile_part};
+ghost use Rattle.tn_base.specs.Parts.{JoinsVisited, kind_of, tile_at, tile_count, tile_part};
+ghost use Rattle.tn_base.specs.declared.ids.PartId.{PartId};
 ghost use Rattle.tn_base.specs.declared.part.Kind.TheVariants as kind;
 ghost use Rattle.tn_base.specs.Shape.{thread_count};
 
@@ -47,6 +48,13 @@ pub fn law_tile_parts(shape: &Shape)
     ensures below { (a : ℕ) → IsTrue (has_tile shape.now a) → tile_place shape.now a < tile_count shape.now }
     ensures named { (a : ℕ) → IsTrue (has_tile shape.now a) → tile_at shape.now (tile_place shape.now a) ≡ a }
     ensures placed { (i : ℕ) → i < tile_count shape.now → tile_place shape.now (tile_at shape.now i) ≡ i }
+{
+    let _numbers = shape.numbers();
+}
+
+/// Each link stands behind the host, the tiles and the routers, and leads from one of these to another.
+pub fn law_links(shape: &Shape)
+    ensures { (l : ℕ) (from onto : PartId) → kind_of shape.now l ≡ kind.Link from onto → JoinsVisited shape.now l from.0 onto.0 }
 {
     let _numbers = shape.numbers();
 }

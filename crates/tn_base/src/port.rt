@@ -141,6 +141,18 @@ impl Board {
             Dest::Key(_) => Port::Down,
         }
     }
+
+    /// The way to a neighbouring board: along X first, then along Y. `Here` for the board itself.
+    pub fn way_to(self, to: Board) -> Port
+        ensures { result ≡ toward self.x self.y to.x to.y Port.Here }
+    {
+        let here = Place {
+            x: self.x,
+            y: self.y,
+        };
+        let there = Place { x: to.x, y: to.y };
+        walk(here, there, Port::Here)
+    }
 }
 
 impl Shape {
