@@ -7,14 +7,15 @@ use Rattle.tn_base.specs.declared.event.Outcome.{Outcome}
 use Rattle.tn_base.specs.declared.event.Outcome.TheVariants as outcome
 use Rattle.tn_base.specs.declared.ids.ThreadId.{ThreadId}
 use Rattle.tn_base.specs.Address.{place_in_tile}
-use Rattle.tn_rows.specs.Events.{part_of, Rests}
-use Rattle.tn_rows.specs.PartView.{PartView, TileV, AbsentV}
+use Rattle.tn_rows.specs.Events.{Rests}
+use Rattle.tn_rows.specs.PartView.{PartView, TileV, LinkV, AbsentV}
+use Rattle.tn_rows.specs.Places.{part_of}
 use Rattle.tn_rows.specs.WorldView.{WorldView}
 use Rattle.tn_thread.specs.declared.state.ThreadState.{ThreadState}
 use Rattle.tn_thread.specs.declared.state.ThreadState.TheVariants as state
 use Rattle.tn_thread.specs.declared.thread.Thread.{Thread}
 use Rattle.tn_tile.specs.Rows.{is_here}
-use Rattle.tn_tile.specs.Still.{has_live, is_still}
+use Rattle.tn_tile.specs.Still.{has_live, is_nil, is_still}
 use Rattle.tn_tile.specs.Step.{thread_at}
 
 abbrev pub spent_by : ThreadId → Bool → Option Outcome
@@ -34,6 +35,7 @@ ended_with fuel t thread = ended_by t thread.state (thread.steps == fuel)
 
 abbrev pub ended_on : ThreadId → PartView → Option Outcome
 ended_on t (TileV v) = if is_here t.0 v then ended_with v.shape.fuel t (thread_at v (place_in_tile v.shape t.0)) else None
+ended_on t (LinkV v) = None
 ended_on t AbsentV = None
 
 -- how a run ends with an event after which the machine is this one, where the event is final
@@ -54,6 +56,7 @@ final_after (Some e) w = final_of e w
 -- all threads of a part ended, and no message stands there
 abbrev pub is_over : PartView → Bool
 is_over (TileV v) = is_still v && not (has_live v)
+is_over (LinkV v) = is_nil v.packets
 is_over AbsentV = true
 
 -- how a run ends in which nothing more can happen: all threads ended and no message stands anywhere, or not

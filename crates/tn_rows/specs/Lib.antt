@@ -1,5 +1,8 @@
 pub mod Ends
 pub mod Events
+pub mod Listed
 pub mod PartView
+pub mod Places
 pub mod Runs
+pub mod SamePacket
 pub mod WorldView

@@ -1,0 +1,48 @@
+-- The events that can be enabled, in their order.
+use Rattle.std.specs.Prelude.{ℕ, ◌++◌, ◌∷◌, [], List, Bool, map, if◌then◌else◌}
+use Rattle.std.specs.List.{flat_map, range_with_len}
+use Rattle.tn_base.specs.declared.event.Event.{Event}
+use Rattle.tn_base.specs.declared.event.Event.TheVariants as event
+use Rattle.tn_base.specs.declared.ids.PartId.{PartId}
+use Rattle.tn_base.specs.declared.ids.ThreadId.{ThreadId}
+use Rattle.tn_base.specs.declared.shape.ShapeNumbers.{ShapeNumbers}
+use Rattle.tn_base.specs.Address.{thread_at}
+use Rattle.tn_base.specs.Parts.{kind_of, part_count, visited}
+use Rattle.tn_base.specs.Shape.{thread_count}
+use Rattle.tn_rows.specs.Places.{leads_from, leads_to}
+
+-- the thread at a place of the machine by ascending address
+abbrev pub nth_thread : ShapeNumbers → ℕ → ThreadId
+nth_thread n i = record { 0 = thread_at n i }
+
+abbrev pub part_id : ℕ → PartId
+part_id p = record { 0 = p }
+
+abbrev pub event_if : Bool → Event → List Event
+event_if there e = if there then e ∷ [] else []
+
+-- turns, by thread; a turn of one step stands for all
+abbrev pub turns : ShapeNumbers → List Event
+turns n = map (λ i. event.Turn (nth_thread n i) 1) (range_with_len 0 (thread_count n))
+
+-- deliveries, by thread
+abbrev pub deliveries : ShapeNumbers → List Event
+deliveries n = map (λ i. event.Deliver (nth_thread n i)) (range_with_len 0 (thread_count n))
+
+-- departures from a part, by link; and all of them, by part
+abbrev pub departures_from : ShapeNumbers → ℕ → List Event
+departures_from n p = flat_map (λ l. event_if (leads_from p (kind_of n l)) (event.Depart (part_id p) (part_id l))) (range_with_len 0 (part_count n))
+
+abbrev pub departures : ShapeNumbers → List Event
+departures n = flat_map (departures_from n) (range_with_len 0 (visited n))
+
+-- arrivals from a link; and all of them, by link
+abbrev pub arrivals_from : ShapeNumbers → ℕ → List Event
+arrivals_from n l = flat_map (λ p. event_if (leads_to p (kind_of n l)) (event.Arrive (part_id l) (part_id p))) (range_with_len 0 (visited n))
+
+abbrev pub arrivals : ShapeNumbers → List Event
+arrivals n = flat_map (arrivals_from n) (range_with_len 0 (part_count n))
+
+-- the events that can be enabled, in their order
+abbrev pub listed : ShapeNumbers → List Event
+listed n = turns n ++ deliveries n ++ departures n ++ arrivals n
