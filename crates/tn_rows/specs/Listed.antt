@@ -7,7 +7,7 @@ use Rattle.tn_base.specs.declared.ids.PartId.{PartId}
 use Rattle.tn_base.specs.declared.ids.ThreadId.{ThreadId}
 use Rattle.tn_base.specs.declared.shape.ShapeNumbers.{ShapeNumbers}
 use Rattle.tn_base.specs.Address.{thread_at}
-use Rattle.tn_base.specs.Parts.{kind_of, part_count, visited}
+use Rattle.tn_base.specs.Parts.{kind_of, part_count}
 use Rattle.tn_base.specs.Shape.{thread_count}
 use Rattle.tn_rows.specs.Places.{leads_from, leads_to}
 
@@ -34,11 +34,11 @@ abbrev pub departures_from : ShapeNumbers → ℕ → List Event
 departures_from n p = flat_map (λ l. event_if (leads_from p (kind_of n l)) (event.Depart (part_id p) (part_id l))) (range_with_len 0 (part_count n))
 
 abbrev pub departures : ShapeNumbers → List Event
-departures n = flat_map (departures_from n) (range_with_len 0 (visited n))
+departures n = flat_map (departures_from n) (range_with_len 0 (part_count n))
 
 -- arrivals from a link; and all of them, by link
 abbrev pub arrivals_from : ShapeNumbers → ℕ → List Event
-arrivals_from n l = flat_map (λ p. event_if (leads_to p (kind_of n l)) (event.Arrive (part_id l) (part_id p))) (range_with_len 0 (visited n))
+arrivals_from n l = flat_map (λ p. event_if (leads_to p (kind_of n l)) (event.Arrive (part_id l) (part_id p))) (range_with_len 0 (part_count n))
 
 abbrev pub arrivals : ShapeNumbers → List Event
 arrivals n = flat_map (arrivals_from n) (range_with_len 0 (part_count n))

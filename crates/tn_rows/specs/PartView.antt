@@ -1,3 +1,4 @@
+use Rattle.std.specs.Prelude.{Option, Some, None}
 use Rattle.tn_link.specs.LinkView.{LinkView}
 use Rattle.tn_tile.specs.TileView.{TileView}
 
@@ -6,3 +7,14 @@ pub data PartView : Type 0 where
   TileV : TileView → PartView
   LinkV : LinkView → PartView
   AbsentV : PartView
+
+-- the tile that a part is, and the link
+abbrev pub tile_of : PartView → Option TileView
+tile_of (TileV v) = Some v
+tile_of (LinkV v) = None
+tile_of AbsentV = None
+
+abbrev pub link_of : PartView → Option LinkView
+link_of (TileV v) = None
+link_of (LinkV v) = Some v
+link_of AbsentV = None

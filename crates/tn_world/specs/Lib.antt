@@ -1,2 +1,3 @@
+pub mod Joint
 pub mod Plays
 pub mod Views

@@ -1,30 +1,33 @@
 -- What turns, and runs of them, leave.
-use Rattle.std.specs.Prelude.{ℕ, ◌≡◌, ◌≤◌, ◌<◌, ◌⊎◌, List, [], ◌∷◌, length, Some, None, IsSome, MatchOption}
+use Rattle.std.specs.Prelude.{ℕ, ◌≡◌, ◌≤◌, ◌<◌, ◌⊎◌, Bool, false, not, List, [], ◌∷◌, length, Some, None, IsSome, MatchOption}
 use Rattle.tn_base.specs.declared.event.Event.{Event}
 use Rattle.tn_base.specs.declared.event.Event.TheVariants as event
 use Rattle.tn_base.specs.declared.ids.ThreadId.{ThreadId}
 use Rattle.tn_rows.specs.Ends.{final_after, last_of}
 use Rattle.tn_rows.specs.Events.{after, happened, Rests}
-use Rattle.tn_rows.specs.PartView.{PartView}
+use Rattle.tn_rows.specs.PartView.{PartView, TileV, LinkV, AbsentV}
 use Rattle.tn_rows.specs.Runs.{IsLongest, LongRun}
 use Rattle.tn_rows.specs.WorldView.{WorldView}
+use Rattle.tn_stamp.specs.declared.entry.Crossing.TheVariants as crossing
 use Rattle.tn_tile.specs.declared.step.Turned.{Turned}
 use Rattle.tn_tile.specs.declared.step.Turned.TheVariants as turned
+use Rattle.tn_tile.specs.Still.{none_waits}
 
 -- a turn on a part is the longest one, or there is none and nothing changes
 abbrev pub TurnsPart : Turned → ThreadId → PartView → PartView → Type 0
-TurnsPart (turned.Moved n) t old new = (after (event.Turn t n) old ≡ Some new) × ((m : ℕ) → n < m → after (event.Turn t m) old ≡ None)
-TurnsPart turned.Nothing t old new = (new ≡ old) × ((m : ℕ) → after (event.Turn t m) old ≡ None)
+TurnsPart (turned.Moved n) t old new = (after (event.Turn t n) crossing.None old ≡ Some new) × ((m : ℕ) → n < m → after (event.Turn t m) crossing.None old ≡ None)
+TurnsPart turned.Nothing t old new = (new ≡ old) × ((m : ℕ) → after (event.Turn t m) crossing.None old ≡ None)
 
 -- the same of a machine
 abbrev pub Turns : Turned → ThreadId → WorldView → WorldView → Type 0
 Turns (turned.Moved n) t old new = (happened (event.Turn t n) old ≡ Some new) × ((m : ℕ) → n < m → happened (event.Turn t m) old ≡ None)
 Turns turned.Nothing t old new = (new ≡ old) × ((m : ℕ) → happened (event.Turn t m) old ≡ None)
 
--- a thread can make no step, and no packet of it can be delivered
-pub record Stuck (w : WorldView) (t : ThreadId) : Type 0 where
-  pub turn : (m : ℕ) → happened (event.Turn t m) w ≡ None
-  pub deliver : happened (event.Deliver t) w ≡ None
+-- a packet waits on a part for a way out
+abbrev pub offers : PartView → Bool
+offers (TileV v) = not (none_waits v.transit)
+offers (LinkV v) = false
+offers AbsentV = false
 
 -- the machine makes an event; a turn is the longest one
 pub record Makes (e : Event) (old new : WorldView) : Type 0 where
@@ -45,3 +48,8 @@ Reached start end = (history : List Event) × LongRun start history end
 abbrev pub First : WorldView → List Event → Event → Type 0
 First w [] e = ⊥
 First w (x ∷ xs) e = ((x ≡ e) × IsSome (happened x w)) ⊎ ((happened x w ≡ None) × First w xs e)
+
+-- none of these events is enabled
+abbrev pub NoneOf : WorldView → List Event → Type 0
+NoneOf w [] = Unit {0}
+NoneOf w (x ∷ xs) = (happened x w ≡ None) × NoneOf w xs

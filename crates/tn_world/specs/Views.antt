@@ -1,7 +1,10 @@
-use Rattle.tn_rows.specs.PartView.{PartView, TileV, AbsentV}
+use Rattle.tn_link.specs.LinkView.{LinkView}
+use Rattle.tn_rows.specs.PartView.{PartView, TileV, LinkV, AbsentV}
 use Rattle.tn_world.specs.declared.part.Contents.{Contents}
 use Rattle.tn_world.specs.declared.part.Contents.TheVariants as contents
 
-abbrev pub view_of : Contents → PartView
-view_of (contents.Tile tile) = TileV tile
-view_of contents.Absent = AbsentV
+-- a part as the laws see it, its link by its content
+abbrev pub view_of : {L : Type 0} → (L → LinkView) → Contents L → PartView
+view_of content (contents.Tile tile) = TileV tile
+view_of content (contents.Link link) = LinkV (content link)
+view_of content contents.Absent = AbsentV

@@ -1,13 +1,16 @@
 //! Events on a machine.
 
-ghost use Rattle.std.specs.Prelude.{◌≡◌, MatchOption, MatchResult, is_some, option_and_then, option_copied, option_map, slice_get};
+ghost use Rattle.std.specs.Prelude.{◌≡◌, ◌<◌, MatchOption, MatchResult, is_some, option_and_then, option_copied, option_map, slice_get};
 ghost use Rattle.std.specs.List.{list_all};
 ghost use Rattle.tn_base.specs.declared.event.Event.TheVariants as event;
 ghost use Rattle.tn_base.specs.Does.{Does};
+ghost use Rattle.tn_base.specs.Parts.{part_count};
 ghost use Rattle.tn_rows.specs.Ends.{ended_on, final_of, is_over, rest_outcome};
-ghost use Rattle.tn_rows.specs.Events.{Rests, happened, listed, part_of};
+ghost use Rattle.tn_rows.specs.Events.{Rests, happened};
+ghost use Rattle.tn_rows.specs.Listed.{arrivals, arrivals_from, deliveries, departures, departures_from, listed, turns};
+ghost use Rattle.tn_rows.specs.Places.{part_of};
 ghost use Rattle.tn_tile.specs.Turns.{moved};
-ghost use Rattle.tn_world.specs.Plays.{First, Turns};
+ghost use Rattle.tn_world.specs.Plays.{First, NoneOf, Turns};
 
 use crate::part::Part;
 use crate::world::World;
@@ -15,33 +18,59 @@ use std::alloc::AllocError;
 use tn_base::event::{Event, Outcome};
 use tn_base::ids::{PartId, ThreadId};
 use tn_base::laws::law_threads;
+use tn_link::link::Link;
 use tn_tile::deliver::Did;
 use tn_tile::step::Turned;
 
 /// One event, where it is enabled. A turn's steps are made on a copy of its tile, which takes memory.
-pub fn step(world: &mut World, e: &Event) -> Result<Did, AllocError>
+pub fn step<L: Link>(world: &mut World<L>, e: &Event) -> Result<Did, AllocError>
     ensures { MatchResult result (λ did. Does (moved did) (happened e.now world.old) world.old world.new) (λ _. world.new ≡ world.old) }
 {
     match *e {
         Event::Turn(t, n) => world.turn_of(t, n),
         Event::Deliver(t) => Ok(world.deliver(t)),
+        Event::Depart(p, l) => Ok(world.depart(p, l)),
+        Event::Arrive(l, p) => Ok(world.arrive(l, p)),
         _ => Ok(Did::Nothing),
     }
 }
 
-/// The first event in their order that is enabled: turns by thread, then deliveries by thread.
-pub fn enabled(world: &World) -> Option<Event>
+/// The first event in their order that is enabled: turns by thread, then deliveries by thread, departures by part
+/// and link, arrivals by link.
+pub fn enabled<L: Link>(world: &World<L>) -> Option<Event>
     ensures { MatchOption result (Rests world.now) (First world.now (listed world.now.shape)) }
 {
     law_threads(&world.shape);
-    let count = world.shape.thread_count();
-    for i in 0..count {
+    if let Some(e) = first_turn(world) {
+        return Some(e);
+    }
+    if let Some(e) = first_delivery(world) {
+        return Some(e);
+    }
+    if let Some(e) = first_departure(world) {
+        return Some(e);
+    }
+    first_arrival(world)
+}
+
+/// The first thread that can make a step.
+fn first_turn<L: Link>(world: &World<L>) -> Option<Event>
+    ensures { MatchOption result (NoneOf world.now (turns world.now.shape)) (First world.now (turns world.now.shape)) }
+{
+    for i in 0..world.shape.thread_count() {
         let t = world.shape.thread_at(i);
         if world.can_turn(t) {
             return Some(Event::Turn(t, 1));
         }
     }
-    for i in 0..count {
+    None
+}
+
+/// The first thread whose packet can be delivered.
+fn first_delivery<L: Link>(world: &World<L>) -> Option<Event>
+    ensures { MatchOption result (NoneOf world.now (deliveries world.now.shape)) (First world.now (deliveries world.now.shape)) }
+{
+    for i in 0..world.shape.thread_count() {
         let t = world.shape.thread_at(i);
         if world.can_deliver(t) {
             return Some(Event::Deliver(t));
@@ -50,9 +79,33 @@ pub fn enabled(world: &World) -> Option<Event>
     None
 }
 
+/// The first part that can give a packet to a link.
+fn first_departure<L: Link>(world: &World<L>) -> Option<Event>
+    ensures { MatchOption result (NoneOf world.now (departures world.now.shape)) (First world.now (departures world.now.shape)) }
+{
+    for p in 0..world.shape.part_count() {
+        if let Some(e) = world.departure_from(PartId(p)) {
+            return Some(e);
+        }
+    }
+    None
+}
+
+/// The first link that can give a packet to a part.
+fn first_arrival<L: Link>(world: &World<L>) -> Option<Event>
+    ensures { MatchOption result (NoneOf world.now (arrivals world.now.shape)) (First world.now (arrivals world.now.shape)) }
+{
+    for l in 0..world.shape.part_count() {
+        if let Some(e) = world.arrival_from(PartId(l)) {
+            return Some(e);
+        }
+    }
+    None
+}
+
 /// How a run ends with this event, after which the machine is this one, where the event is final: a thread
 /// trapped, or has used its fuel.
-pub fn final_of(world: &World, e: &Event) -> Option<Outcome>
+pub fn final_of<L: Link>(world: &World<L>, e: &Event) -> Option<Outcome>
     ensures { result ≡ final_of e.now world.now }
 {
     match *e {
@@ -63,7 +116,7 @@ pub fn final_of(world: &World, e: &Event) -> Option<Outcome>
 
 /// How a run ends in which nothing more can happen: done where all threads ended and no message stands
 /// anywhere, else jammed.
-pub fn rest_outcome(world: &World) -> Outcome
+pub fn rest_outcome<L: Link>(world: &World<L>) -> Outcome
     ensures { result ≡ rest_outcome world.now }
 {
     if are_over(&world.parts) {
@@ -74,13 +127,13 @@ pub fn rest_outcome(world: &World) -> Outcome
 }
 
 /// Whether all threads of all parts ended, and no message stands anywhere.
-fn are_over(parts: &[Part]) -> bool
+fn are_over<L: Link>(parts: &[Part<L>]) -> bool
     ensures { result ≡ list_all is_over parts.now }
 {
     parts.iter().all(|part| part.is_over())
 }
 
-impl World {
+impl<L: Link> World<L> {
     /// The part of a thread's tile, where the machine has the thread.
     fn part_of(&self, t: ThreadId) -> Option<PartId>
         ensures { option_map (λ p. p.0) result ≡ part_of self.now.shape t }
@@ -135,7 +188,7 @@ impl World {
     }
 
     /// The part that a thread is on.
-    fn part_with(&self, t: ThreadId) -> Option<&Part>
+    fn part_with(&self, t: ThreadId) -> Option<&Part<L>>
         ensures { option_copied result ≡ option_and_then (slice_get self.now.parts) (part_of self.now.shape t) }
     {
         let p = self.part_of(t)?;
@@ -160,6 +213,38 @@ impl World {
             Some(part) => part.can_deliver(t),
             None => false,
         }
+    }
+
+    /// The first link that can take a packet from a part.
+    fn departure_from(&self, p: PartId) -> Option<Event>
+        requires { p.0 < part_count self.now.shape }
+        ensures { MatchOption result (NoneOf self.now (departures_from self.now.shape p.0)) (First self.now (departures_from self.now.shape p.0)) }
+    {
+        if !self.parts[p.0 as usize].offers() {
+            return None;
+        }
+        for l in 0..self.shape.part_count() {
+            if self.can_depart(p, PartId(l)) {
+                return Some(Event::Depart(p, PartId(l)));
+            }
+        }
+        None
+    }
+
+    /// The first part that can take a packet from a link.
+    fn arrival_from(&self, l: PartId) -> Option<Event>
+        requires { l.0 < part_count self.now.shape }
+        ensures { MatchOption result (NoneOf self.now (arrivals_from self.now.shape l.0)) (First self.now (arrivals_from self.now.shape l.0)) }
+    {
+        if !self.parts[l.0 as usize].carries() {
+            return None;
+        }
+        for p in 0..self.shape.part_count() {
+            if self.can_arrive(l, PartId(p)) {
+                return Some(Event::Arrive(l, PartId(p)));
+            }
+        }
+        None
     }
 
     /// How a run ends with a turn of this thread, where that turn is final.

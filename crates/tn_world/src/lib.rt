@@ -3,7 +3,9 @@
 //! What an event makes of a machine stands in `tn_rows`. Read `events::step` and `play::play` first.
 #![tactic(auto)]
 
+mod agenda;
 pub mod events;
+mod links;
 pub mod part;
 pub mod play;
 pub mod world;

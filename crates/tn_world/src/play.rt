@@ -1,77 +1,89 @@
 //! Runs of a machine on one thread.
 
-ghost use Rattle.std.specs.Prelude.{◌≡◌, ◌<◌, IfSome, MatchOption, MatchResult};
-ghost use Rattle.tn_base.specs.Shape.{thread_count};
-ghost use Rattle.tn_rows.specs.Events.{Rests, nth_thread};
-ghost use Rattle.tn_world.specs.Plays.{Makes, Played, Reached, Stuck};
+ghost use Rattle.std.specs.Prelude.{◌≡◌, MatchOption, MatchResult, None};
+ghost use Rattle.tn_rows.specs.Events.{Rests, happened};
+ghost use Rattle.tn_world.specs.Plays.{Makes, Played, Reached};
 
-use crate::events::final_of;
+use crate::agenda::Agenda;
+use crate::events::{enabled, final_of};
 use crate::world::World;
 use std::alloc::AllocError;
 use tn_base::event::Event;
-use tn_base::ids::ThreadId;
-use tn_base::laws::law_threads;
+use tn_link::link::Link;
 use tn_tile::deliver::Did;
 use tn_tile::step::Turned;
 
-/// A thread's place among those of the machine, and an event of that thread.
-#[derive(Clone, Copy)]
-struct Move {
-    place: u32,
-    event: Event,
-}
+/// So many tries are enough to come round all events of the greatest machine several times.
+const MOST_TRIES: u32 = 1 << 20;
 
-/// Makes deliveries and longest turns, round the threads, to a final event, to none enabled, or to `limit` events.
+/// Makes events, longest turns among them, round the parts, to a final event, to none enabled, or to `limit` events.
 /// Where memory is refused, the machine stands after some of these events.
-pub fn play(world: &mut World, limit: u64) -> Result<Vec<Event>, AllocError>
+pub fn play<L: Link>(world: &mut World<L>, limit: u64) -> Result<Vec<Event>, AllocError>
     ensures { MatchResult result (λ history. Played limit world.old history.items world.new) (λ _. Reached world.old world.new) }
 {
-    let mut history = Vec::new(world.parts.allocator().clone()?);
-    let mut from = 0;
+    let alloc = world.parts.allocator().clone()?;
+    let mut agenda = Agenda::of(alloc, &world.shape)?;
+    let mut history = Vec::new(alloc);
     while (history.len() as u64) < limit {
-        let Some(made) = next_move(world, from) else {
+        let Some(event) = next_move(world, &mut agenda) else {
             return Ok(history);
         };
-        history.push(made.event)?;
-        if final_of(world, &made.event).is_some() {
+        history.push(event)?;
+        if final_of(world, &event).is_some() {
             return Ok(history);
         }
-        from = made.place + 1;
     }
     Ok(history)
 }
 
-/// The next event of the threads from a place on, then of those before it; none where no event is enabled.
-fn next_move(world: &mut World, from: u32) -> Option<Move>
-    ensures made { MatchOption result ((world.new ≡ world.old) × Rests world.old) (λ m. Makes m.event world.old world.new) }
-    ensures place { IfSome result (λ m. m.place < 16384) }
+/// The next event of the run; none where no event is enabled.
+fn next_move<L: Link>(world: &mut World<L>, agenda: &mut Agenda) -> Option<Event>
+    ensures { MatchOption result ((world.new ≡ world.old) × Rests world.old) (λ e. Makes e world.old world.new) }
 {
-    law_threads(&world.shape);
-    let count = world.shape.thread_count();
-    for place in from..count {
-        let t = world.shape.thread_at(place);
-        if let Some(event) = move_thread(world, t) {
-            return Some(Move { place, event });
-        }
+    if let Some(event) = try_agenda(world, agenda) {
+        return Some(event);
     }
-    for place in 0..count {
-        let t = world.shape.thread_at(place);
-        if let Some(event) = move_thread(world, t) {
-            return Some(Move { place, event });
+    let event = enabled(world)?;
+    agenda.mark_all();
+    make(world, &event)
+}
+
+/// The first event of the agenda that is enabled.
+fn try_agenda<L: Link>(world: &mut World<L>, agenda: &mut Agenda) -> Option<Event>
+    ensures { MatchOption result (world.new ≡ world.old) (λ e. Makes e world.old world.new) }
+{
+    for _ in 0..MOST_TRIES {
+        let tried = agenda.next()?;
+        if let Some(event) = make(world, &tried) {
+            agenda.happened(&event);
+            return Some(event);
         }
     }
     None
 }
 
-/// Delivers a thread's packet, or makes its longest turn.
-fn move_thread(world: &mut World, t: ThreadId) -> Option<Event>
-    ensures { MatchOption result ((world.new ≡ world.old) × Stuck world.old t) (λ e. Makes e world.old world.new) }
+/// Makes an event where it is enabled; a turn becomes the longest one of its thread.
+fn make<L: Link>(world: &mut World<L>, e: &Event) -> Option<Event>
+    ensures { MatchOption result ((world.new ≡ world.old) × (happened e.now world.old ≡ None)) (λ made. Makes made world.old world.new) }
 {
-    if let Did::Moved = world.deliver(t) {
-        return Some(Event::Deliver(t));
+    match *e {
+        Event::Turn(t, _) => match world.turn(t) {
+            Turned::Moved(n) => Some(Event::Turn(t, n)),
+            Turned::Nothing => None,
+        },
+        Event::Deliver(t) => made(world.deliver(t), *e),
+        Event::Depart(p, l) => made(world.depart(p, l), *e),
+        Event::Arrive(l, p) => made(world.arrive(l, p), *e),
+        _ => None,
     }
-    match world.turn(t) {
-        Turned::Moved(n) => Some(Event::Turn(t, n)),
-        Turned::Nothing => None,
+}
+
+/// The event, if it happened.
+fn made(did: Did, e: Event) -> Option<Event>
+    ensures { MatchOption result (did ≡ Did.Nothing) (λ made. (did ≡ Did.Moved) × (made ≡ e)) }
+{
+    match did {
+        Did::Moved => Some(e),
+        Did::Nothing => None,
     }
 }

@@ -10,15 +10,16 @@ use std::alloc::AllocError;
 use std::marker::Model;
 use tn_base::ids::PartId;
 use tn_base::shape::Shape;
+use tn_link::link::Link;
 
 /// A machine: its shape, and one part for each part of the shape.
 #[derive(Drop)]
-pub struct World {
+pub struct World<L: Link> {
     pub(crate) shape: Shape,
-    pub(crate) parts: Vec<Part>,
+    pub(crate) parts: Vec<Part<L>>,
 }
 
-impl Model for World {
+impl<L: Link> Model for World<L> {
     ghost use Rattle.tn_rows.specs.Events.{IsWorld};
     ghost use Rattle.tn_rows.specs.WorldView.{WorldView};
 
@@ -29,9 +30,9 @@ impl Model for World {
     ghost invariant = { λ w. IsWorld (record { shape = w.shape; parts = w.parts.items }) };
 }
 
-impl World {
+impl<L: Link> World<L> {
     /// The machine of these parts, one for each part of the shape, each what the shape names there.
-    pub fn of(shape: Shape, parts: Vec<Part>) -> World
+    pub fn of(shape: Shape, parts: Vec<Part<L>>) -> World<L>
         requires { IsWorld (record { shape = shape; parts = parts.items }) }
         ensures { result ≡ record { shape = shape; parts = parts.items } }
     {
@@ -46,7 +47,7 @@ impl World {
     }
 
     /// A part.
-    pub fn part(&self, p: PartId) -> &Part
+    pub fn part(&self, p: PartId) -> &Part<L>
         requires { p.0 < part_count self.now.shape }
         ensures { result.now ≡ slice_index_or self.now.parts p.0 AbsentV }
     {
@@ -54,14 +55,14 @@ impl World {
     }
 
     /// The parts in order.
-    pub fn parts(&self) -> &[Part]
+    pub fn parts(&self) -> &[Part<L>]
         ensures { result.now ≡ self.now.parts }
     {
         &self.parts
     }
 
     /// The same machine.
-    pub fn copy(&self) -> Result<World, AllocError>
+    pub fn copy(&self) -> Result<World<L>, AllocError>
         ensures { IfOk result (λ w. w ≡ self.now) }
     {
         let parts = copy_parts(&self.parts)?;
@@ -73,7 +74,7 @@ impl World {
 }
 
 /// The same parts.
-fn copy_parts(parts: &Vec<Part>) -> Result<Vec<Part>, AllocError>
+fn copy_parts<L: Link>(parts: &Vec<Part<L>>) -> Result<Vec<Part<L>>, AllocError>
     ensures { IfOk result (λ all. all.items ≡ parts.now.items) }
 {
     let mut all = Vec::with_capacity(parts.allocator().clone()?, parts.len())?;

@@ -1,0 +1,22 @@
+-- Events on two parts.
+use Rattle.std.specs.Prelude.{ℕ, ◌≡◌, Bool, true, false, List, Option, MatchOption, slice_set}
+use Rattle.tn_base.specs.declared.port.Port.{Port}
+use Rattle.tn_rows.specs.Events.{Met}
+use Rattle.tn_rows.specs.PartView.{PartView, TileV, LinkV, AbsentV}
+use Rattle.tn_rows.specs.Places.{link_way}
+
+-- the row of both parts gives what they are now, and the call says so; or it gives nothing, nothing happened, and the call
+-- says so
+abbrev pub DoesBoth : Bool → Option Met → PartView → PartView → PartView → PartView → Type 0
+DoesBoth happened row low high low' high' =
+    MatchOption row ((happened ≡ false) × (low' ≡ low) × (high' ≡ high)) (λ m. (happened ≡ true) × (low' ≡ m.low) × (high' ≡ m.high))
+
+-- link l leads away from a tile by this way
+abbrev pub IsWay : PartView → ℕ → Port → Type 0
+IsWay (TileV v) l way = way ≡ link_way v.shape l
+IsWay (LinkV v) l way = Unit {0}
+IsWay AbsentV l way = Unit {0}
+
+-- the parts with both of an event in their places
+abbrev pub set_both : List PartView → ℕ → ℕ → Met → List PartView
+set_both parts p q m = slice_set (slice_set parts p m.low) q m.high

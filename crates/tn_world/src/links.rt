@@ -1,0 +1,223 @@
+//! Events on a tile and a link: departures and arrivals.
+
+ghost use Rattle.std.specs.Prelude.{◌≡◌, ◌<◌, Some, None, is_some, length, option_map, slice_get, slice_index_or, if◌then◌else◌};
+ghost use Rattle.tn_base.specs.declared.event.Event.TheVariants as event;
+ghost use Rattle.tn_base.specs.declared.part.Kind.TheVariants as kind;
+ghost use Rattle.tn_base.specs.Does.{Does};
+ghost use Rattle.tn_base.specs.Parts.{kind_of};
+ghost use Rattle.tn_rows.specs.Events.{happened, meets, meets_at};
+ghost use Rattle.tn_rows.specs.PartView.{LinkV, TileV};
+ghost use Rattle.tn_rows.specs.Places.{leads_from, leads_to, link_way, way_between};
+ghost use Rattle.tn_tile.specs.Turns.{moved};
+ghost use Rattle.tn_world.specs.Joint.{DoesBoth, IsWay, set_both};
+
+use crate::part::{Contents, Part};
+use crate::world::World;
+use tn_base::ids::{PartId, ThreadId};
+use tn_base::laws::law_links;
+use tn_base::message::Dest;
+use tn_base::part::Kind;
+use tn_base::port::Port;
+use tn_link::link::Link;
+use tn_tile::deliver::Did;
+use tn_tile::tile::Tile;
+
+/// The way between two neighbours.
+fn way_between(a: Kind, b: Kind) -> Port
+    ensures { result ≡ way_between a b }
+{
+    match (a, b) {
+        (Kind::Tile(a), Kind::Tile(b)) => a.port(&Dest::Thread(ThreadId(b.0))),
+        (Kind::Tile(_), Kind::Router(_)) => Port::Up,
+        (Kind::Router(_), Kind::Tile(_)) => Port::Down,
+        (Kind::Router(a), Kind::Router(b)) => a.way_to(b),
+        (Kind::Router(_), Kind::Host) => Port::HostPort,
+        _ => Port::Here,
+    }
+}
+
+/// A packet goes from a tile to the link, which leads away by this way.
+fn depart_tile<L: Link>(tile: &mut Tile, link: &mut L, p: PartId, l: PartId, way: Port) -> Did
+    requires { way ≡ link_way tile.old.shape l.0 }
+    ensures { DoesBoth (moved result) (meets (event.Depart p l) (TileV tile.old) (LinkV (L.content link.old))) (TileV tile.old) (LinkV (L.content link.old)) (TileV tile.new) (LinkV (L.content link.new)) }
+{
+    if tile.counter() == i64::MAX {
+        return Did::Nothing;
+    }
+    let Some(packet) = tile.offer(way) else {
+        return Did::Nothing;
+    };
+    if link.put(packet).is_err() {
+        return Did::Nothing;
+    }
+    tile.depart(way);
+    Did::Moved
+}
+
+/// A link's first packet goes to a tile.
+fn arrive_tile<L: Link>(tile: &mut Tile, link: &mut L, l: PartId, p: PartId) -> Did
+    ensures { DoesBoth (moved result) (meets (event.Arrive l p) (TileV tile.old) (LinkV (L.content link.old))) (TileV tile.old) (LinkV (L.content link.old)) (TileV tile.new) (LinkV (L.content link.new)) }
+{
+    let Some(packet) = link.front() else {
+        return Did::Nothing;
+    };
+    if !tile.counts() || tile.counter() == i64::MIN || !tile.accepts(packet) {
+        return Did::Nothing;
+    }
+    let _dead = tile.accept(packet);
+    let _packet = link.take();
+    Did::Moved
+}
+
+impl<L: Link> Part<L> {
+    /// A packet goes from this part to a link, which leads away by this way.
+    fn depart(&mut self, link: &mut Part<L>, p: PartId, l: PartId, way: Port) -> Did
+        requires { IsWay self.old l.0 way }
+        ensures { DoesBoth (moved result) (meets (event.Depart p l) self.old link.old) self.old link.old self.new link.new }
+    {
+        match (&mut self.contents, &mut link.contents) {
+            (Contents::Tile(tile), Contents::Link(link)) => depart_tile(tile, link, p, l, way),
+            _ => Did::Nothing,
+        }
+    }
+
+    /// A link's first packet goes to this part.
+    fn arrive(&mut self, link: &mut Part<L>, l: PartId, p: PartId) -> Did
+        ensures { DoesBoth (moved result) (meets (event.Arrive l p) self.old link.old) self.old link.old self.new link.new }
+    {
+        match (&mut self.contents, &mut link.contents) {
+            (Contents::Tile(tile), Contents::Link(link)) => arrive_tile(tile, link, l, p),
+            _ => Did::Nothing,
+        }
+    }
+
+    /// Whether a packet can go from this part to a link, which leads away by this way.
+    fn can_depart(&self, link: &Part<L>, p: PartId, l: PartId, way: Port) -> bool
+        requires { IsWay self.now l.0 way }
+        ensures { result ≡ is_some (meets (event.Depart p l) self.now link.now) }
+    {
+        match (&self.contents, &link.contents) {
+            (Contents::Tile(tile), Contents::Link(link)) => {
+                tile.counter() != i64::MAX
+                    && tile.offer(way).is_some()
+                    && link.len() < link.capacity()
+            }
+            _ => false,
+        }
+    }
+
+    /// Whether a link's first packet can go to this part.
+    fn can_arrive(&self, link: &Part<L>, l: PartId, p: PartId) -> bool
+        ensures { result ≡ is_some (meets (event.Arrive l p) self.now link.now) }
+    {
+        match (&self.contents, &link.contents) {
+            (Contents::Tile(tile), Contents::Link(link)) => match link.front() {
+                Some(packet) => {
+                    tile.counts() && tile.counter() != i64::MIN && tile.accepts(packet)
+                }
+                None => false,
+            },
+            _ => false,
+        }
+    }
+}
+
+impl<L: Link> World<L> {
+    /// What stands at a place of the machine; past the last part the detector's kind.
+    fn kind_at(&self, p: PartId) -> Kind
+        ensures { result ≡ kind_of self.now.shape p.0 }
+    {
+        if p.0 < self.shape.part_count() {
+            self.shape.kind(p)
+        } else {
+            Kind::Detector
+        }
+    }
+
+    /// The way by which a link leads away from a part, where it does.
+    fn way_from(&self, p: PartId, l: PartId) -> Option<Port>
+        ensures { result ≡ (if leads_from p.0 (kind_of self.now.shape l.0) then Some (link_way self.now.shape l.0) else None) }
+    {
+        match self.kind_at(l) {
+            Kind::Link { from, to } if from == p => {
+                Some(way_between(self.kind_at(from), self.kind_at(to)))
+            }
+            _ => None,
+        }
+    }
+
+    /// Whether a link leads to a part.
+    fn leads_to(&self, l: PartId, p: PartId) -> bool
+        ensures { result ≡ leads_to p.0 (kind_of self.now.shape l.0) }
+    {
+        match self.kind_at(l) {
+            Kind::Link { to, .. } => to == p,
+            _ => false,
+        }
+    }
+
+    /// A packet goes from a part to a link.
+    pub(crate) fn depart(&mut self, p: PartId, l: PartId) -> Did
+        ensures { Does (moved result) (happened (event.Depart p l) self.old) self.old self.new }
+    {
+        law_links(&self.shape);
+        let Some(way) = self.way_from(p, l) else {
+            return Did::Nothing;
+        };
+        depart_at(&mut self.parts, p, l, way)
+    }
+
+    /// A link's first packet goes to a part.
+    pub(crate) fn arrive(&mut self, l: PartId, p: PartId) -> Did
+        ensures { Does (moved result) (happened (event.Arrive l p) self.old) self.old self.new }
+    {
+        law_links(&self.shape);
+        if !self.leads_to(l, p) {
+            return Did::Nothing;
+        }
+        arrive_at(&mut self.parts, l, p)
+    }
+
+    /// Whether a packet can go from a part to a link.
+    pub(crate) fn can_depart(&self, p: PartId, l: PartId) -> bool
+        ensures { result ≡ is_some (happened (event.Depart p l) self.now) }
+    {
+        law_links(&self.shape);
+        match self.way_from(p, l) {
+            Some(way) => {
+                self.parts[p.0 as usize].can_depart(&self.parts[l.0 as usize], p, l, way)
+            }
+            None => false,
+        }
+    }
+
+    /// Whether a link's first packet can go to a part.
+    pub(crate) fn can_arrive(&self, l: PartId, p: PartId) -> bool
+        ensures { result ≡ is_some (happened (event.Arrive l p) self.now) }
+    {
+        law_links(&self.shape);
+        self.leads_to(l, p)
+            && self.parts[p.0 as usize].can_arrive(&self.parts[l.0 as usize], l, p)
+    }
+}
+
+/// A packet goes from the part at a place to the link at another, which leads away by this way.
+fn depart_at<L: Link>(parts: &mut Vec<Part<L>>, p: PartId, l: PartId, way: Port) -> Did
+    requires low { p.0 < l.0 }
+    requires high { l.0 < length parts.old.items }
+    requires way { IsWay (slice_index_or parts.old.items p.0 AbsentV) l.0 way }
+    ensures { Does (moved result) (option_map (set_both parts.old.items p.0 l.0) (meets_at (event.Depart p l) (slice_get parts.old.items p.0) (slice_get parts.old.items l.0))) parts.old.items parts.new.items }
+{
+    let (front, back) = parts.split_at_mut(l.0 as usize);
+    front[p.0 as usize].depart(&mut back[0], p, l, way)
+}
+
+/// The first packet of the link at a place goes to the part at another.
+fn arrive_at<L: Link>(parts: &mut Vec<Part<L>>, l: PartId, p: PartId) -> Did
+    requires low { p.0 < l.0 }
+    requires high { l.0 < length parts.old.items }
+    ensures { Does (moved result) (option_map (set_both parts.old.items p.0 l.0) (meets_at (event.Arrive l p) (slice_get parts.old.items p.0) (slice_get parts.old.items l.0))) parts.old.items parts.new.items }
+{
+    let (front, back) = parts.split_at_mut(l.0 as usize);
+    front[p.0 as usize].arrive(&mut back[0], l, p)
+}
