@@ -73,7 +73,7 @@ fresh_part : (job : Job) (k : Kind) → IsFreshPart (part_start job k)
 fresh_part job (kind.Tile tile) = record { pending = refl; pool = refl; transit = refl; dropped = refl; counter = refl; white = refl; free = refl; going = refl }
 fresh_part job kind.Host = tt
 fresh_part job (kind.Router board) = tt
-fresh_part job (kind.Link from onto) = tt
+fresh_part job (kind.Link from onto) = refl
 fresh_part job kind.Detector = tt
 
 fresh_parts : (job : Job) (kinds : List Kind) → AllByRecursion IsFreshPart (map (part_start job) kinds)

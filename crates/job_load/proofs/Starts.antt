@@ -85,7 +85,7 @@ fits_kind : (job : Job) (k : Kind) → FitsKind job.numbers k (part_start job k)
 fits_kind job (kind.Tile tile) = (refl, refl)
 fits_kind job kind.Host = tt
 fits_kind job (kind.Router board) = tt
-fits_kind job (kind.Link from onto) = tt
+fits_kind job (kind.Link from onto) = refl
 fits_kind job kind.Detector = tt
 
 pub start_is_world : (job : Job) → IsWorld (start_of job)

@@ -5,7 +5,7 @@ use Rattle.tn_base.specs.declared.shape.ShapeFault.{ShapeFault}
 use Rattle.tn_base.specs.declared.shape.ShapeFault.TheVariants as number
 use Rattle.tn_base.specs.declared.shape.ShapeNumbers.{ShapeNumbers}
 use Rattle.tn_base.specs.Address.{has_thread, has_tile}
-use Rattle.tn_base.specs.Parts.{tile_count}
+use Rattle.tn_base.specs.Parts.{board_count}
 use Rattle.tn_base.specs.Shape.{first_fault}
 use Rattle.job_text.specs.declared.job.CodeSection.{CodeSection}
 use Rattle.job_text.specs.declared.job.FillLine.{FillLine}
@@ -58,14 +58,14 @@ earlier (Some a) (Some b) = Some (min a b)
 abbrev pub first_line : {X : Type 0} → (X → ℕ) → List X → Option ℕ
 first_line line items = reduce min (map line items)
 
--- the shape's line, where the machine has more than one tile
-abbrev pub tiles_line : ShapeNumbers → ShapeNumbers → Option ℕ
-tiles_line numbers lines = if nat_lt 1 (tile_count numbers) then Some (shape_line lines) else None
+-- the shape's line, where the machine has more than one board
+abbrev pub boards_line : ShapeNumbers → ShapeNumbers → Option ℕ
+boards_line numbers lines = if nat_lt 1 (board_count numbers) then Some (shape_line lines) else None
 
--- the first line that gives what is not there yet: more than one tile, a table, a script, or a graph
+-- the first line that gives what is not there yet: more than one board, a table, a script, or a graph
 abbrev pub unbuilt_line : Job → Option ℕ
 unbuilt_line job =
-    earlier (tiles_line job.numbers job.number_lines)
+    earlier (boards_line job.numbers job.number_lines)
     (earlier (first_line (λ table. table.line) job.tables)
     (earlier (first_line (λ item. item.line) job.script)
     (option_map (λ graph. graph.line) job.graph)))

@@ -7,7 +7,7 @@ use Rattle.tn_base.specs.Message.{slot_bytes}
 use Rattle.tn_base.specs.Parts.{tile_at, tile_count}
 use Rattle.tn_base.specs.Shape.{is_shape}
 use Rattle.tn_rows.specs.Events.{IsWorld}
-use Rattle.tn_rows.specs.PartView.{PartView, TileV, AbsentV}
+use Rattle.tn_rows.specs.PartView.{PartView, TileV, LinkV, AbsentV}
 use Rattle.tn_rows.specs.WorldView.{WorldView}
 use Rattle.tn_slots.specs.Pool.{fresh}
 use Rattle.tn_tile.specs.TileView.{TileView}
@@ -16,7 +16,7 @@ use Rattle.job_text.specs.declared.job.Job.{Job}
 use Rattle.job_load.specs.declared.fault.LoadFault.{LoadFault}
 use Rattle.job_load.specs.Assembly.{sections_of}
 use Rattle.job_load.specs.Code.{code_of}
-use Rattle.job_load.specs.Faults.{code_fault, fill_fault, tiles_line}
+use Rattle.job_load.specs.Faults.{boards_line, code_fault, fill_fault}
 use Rattle.job_load.specs.Images.{IsWithin, fills_of, memory_of}
 use Rattle.job_load.specs.Start.{start_of}
 
@@ -61,7 +61,7 @@ line_of (Some line) = line ∷ []
 -- all lines that give what is not there yet
 abbrev pub unbuilt_lines : Job → List ℕ
 unbuilt_lines job =
-    line_of (tiles_line job.numbers job.number_lines)
+    line_of (boards_line job.numbers job.number_lines)
     ++ (map (λ table. table.line) job.tables
     ++ (map (λ item. item.line) job.script
     ++ line_of (option_map (λ graph. graph.line) job.graph)))
@@ -90,6 +90,7 @@ pub record IsFresh (v : TileView) : Type 0 where
 
 abbrev pub IsFreshPart : PartView → Type 0
 IsFreshPart (TileV v) = IsFresh v
+IsFreshPart (LinkV v) = v.packets ≡ []
 IsFreshPart AbsentV = Unit {0}
 
 -- the machine of an accepted job at its start

@@ -1,12 +1,12 @@
 -- A job's machine at its start.
-use Rattle.std.specs.Prelude.{ℕ, IsTrue, List, None, map}
+use Rattle.std.specs.Prelude.{ℕ, IsTrue, List, [], None, map}
 use Rattle.std.specs.List.{range_with_len}
 use Rattle.tn_base.specs.declared.part.Kind.{Kind}
 use Rattle.tn_base.specs.declared.part.Kind.TheVariants as kind
 use Rattle.tn_base.specs.declared.shape.ShapeNumbers.{ShapeNumbers}
 use Rattle.tn_base.specs.Address.{has_tile, in_tile, tile_threads}
 use Rattle.tn_base.specs.Parts.{parts}
-use Rattle.tn_rows.specs.PartView.{PartView, TileV, AbsentV}
+use Rattle.tn_rows.specs.PartView.{PartView, TileV, LinkV, AbsentV}
 use Rattle.tn_rows.specs.WorldView.{WorldView}
 use Rattle.tn_thread.specs.declared.thread.Thread.{Thread}
 use Rattle.tn_thread.specs.Step.{started}
@@ -33,12 +33,12 @@ thread_over n images thread = started n (record { 0 = thread }) (image_at images
 abbrev pub tile_start : Job → ℕ → TileView
 tile_start job tile = fresh_tile job.numbers tile (code_of (sections_of job) tile) (by_address (thread_start job) job.numbers tile)
 
--- a part at its start; of the parts there are tiles by now
+-- a part at its start: a tile, or a link without packets. The others are not there yet
 abbrev pub part_start : Job → Kind → PartView
 part_start job (kind.Tile tile) = TileV (tile_start job tile.0)
 part_start job kind.Host = AbsentV
 part_start job (kind.Router board) = AbsentV
-part_start job (kind.Link from onto) = AbsentV
+part_start job (kind.Link from onto) = LinkV (record { packets = []; capacity = job.numbers.link })
 part_start job kind.Detector = AbsentV
 
 -- the machine at its start: one part for each part of its shape

@@ -14,13 +14,14 @@ use crate::start::start_of;
 use crate::unbuilt::unbuilt_fault;
 use job_text::job::Job;
 use std::alloc::Global;
+use tn_link::plain::PlainLink;
 use tn_world::world::World;
 
 /// The machine of a job at its start, or the first fault: a number outside its limits; what the machine does not have
 /// yet, the first in order of lines; a section that is no assembly, at its first line at fault; a section that names what
 /// the machine does not have, the first in order of lines; a tile without code. At the start no thread has made a step,
 /// no message stands anywhere, none was dropped, and no part tells an end (`laws::law_start`).
-pub fn load(alloc: Global, job: &Job) -> Result<World, LoadStop>
+pub fn load(alloc: Global, job: &Job) -> Result<World<PlainLink>, LoadStop>
     requires { AreNumbered job.now }
     ensures { Gives result (loaded job.now) }
 {

@@ -16,6 +16,7 @@ use tn_base::ids::{PartId, TileId};
 use tn_base::laws::law_tiles;
 use tn_base::part::Kind;
 use tn_base::shape::Shape;
+use tn_link::plain::PlainLink;
 use tn_thread::thread::Thread;
 use tn_tile::tile::Tile;
 use tn_world::part::Part;
@@ -75,7 +76,7 @@ fn part_of(
     job: &Job,
     asms: &[CodeSection],
     kind: Kind,
-) -> Result<Part, AllocError>
+) -> Result<Part<PlainLink>, AllocError>
     requires kind { NamesTile shape.now kind }
     requires numbers { shape.now ≡ job.now.numbers }
     requires images { AreImages shape.now.mem job.now.fills images.now }
@@ -84,7 +85,8 @@ fn part_of(
 {
     match kind {
         Kind::Tile(tile) => Ok(Part::tile(tile_of(alloc, shape, images, job, asms, tile)?)),
-        _ => Ok(Part::absent()),
+        Kind::Link { .. } => Ok(Part::link(PlainLink::of(alloc, shape.numbers().link)?)),
+        Kind::Host | Kind::Router(_) | Kind::Detector => Ok(Part::absent()),
     }
 }
 
@@ -95,7 +97,7 @@ fn parts_of(
     images: &Images,
     job: &Job,
     asms: &[CodeSection],
-) -> Result<Vec<Part>, AllocError>
+) -> Result<Vec<Part<PlainLink>>, AllocError>
     requires numbers { shape.now ≡ job.now.numbers }
     requires images { AreImages shape.now.mem job.now.fills images.now }
     requires asms { asms.now ≡ map as_code job.now.asms }
@@ -117,7 +119,7 @@ pub(crate) fn start_of(
     shape: &Shape,
     job: &Job,
     asms: &[CodeSection],
-) -> Result<World, AllocError>
+) -> Result<World<PlainLink>, AllocError>
     requires numbers { shape.now ≡ job.now.numbers }
     requires asms { asms.now ≡ map as_code job.now.asms }
     requires sections { section_fault job.now ≡ None }

@@ -11,6 +11,8 @@ use std::test::Fail;
 use tn_base::event::Event;
 use tn_base::ids::{ThreadId, TileId};
 use tn_base::shape::{Shape, ShapeFault};
+use tn_link::link::Link;
+use tn_link::plain::PlainLink;
 use tn_text::lines::law_line_count;
 use tn_thread::state::ThreadState;
 use tn_thread::thread::Thread;
@@ -19,7 +21,7 @@ use tn_world::events::step;
 use tn_world::world::World;
 
 /// The machine of the job that a text says, or why there is none.
-fn load_text<H: Abort>(rt: &H, alloc: Global, text: &[u8]) -> Result<World, LoadStop> {
+fn load_text<H: Abort>(rt: &H, alloc: Global, text: &[u8]) -> Result<World<PlainLink>, LoadStop> {
     assert!(rt; text.len() < 4000);
     law_line_count(text);
     match read_job(alloc, text) {
@@ -29,7 +31,7 @@ fn load_text<H: Abort>(rt: &H, alloc: Global, text: &[u8]) -> Result<World, Load
 }
 
 /// The machine of the job that a text says.
-fn world_of<H: Abort>(rt: &H, alloc: Global, text: &[u8]) -> World {
+fn world_of<H: Abort>(rt: &H, alloc: Global, text: &[u8]) -> World<PlainLink> {
     match load_text(rt, alloc, text) {
         Ok(world) => world,
         Err(_) => panic!(rt; "no machine"),
@@ -37,12 +39,14 @@ fn world_of<H: Abort>(rt: &H, alloc: Global, text: &[u8]) -> World {
 }
 
 /// The only tile of a machine of eight parts: it is the second of them.
-fn tile_of<'a, H: Abort>(rt: &H, world: &'a World) -> &'a Tile {
+fn tile_of<'a, H: Abort>(rt: &H, world: &'a World<PlainLink>) -> &'a Tile {
     match world.parts() {
         [host, tile, router, up, down, to_host, from_host, detector] => {
             assert!(rt; host.as_tile().is_none() && router.as_tile().is_none());
-            assert!(rt; up.as_tile().is_none() && down.as_tile().is_none());
-            assert!(rt; to_host.as_tile().is_none() && from_host.as_tile().is_none());
+            for link in [up, down, to_host, from_host] {
+                assert!(rt; link.as_tile().is_none());
+                assert!(rt; link.as_link().is_some_and(|l| l.len() == 0));
+            }
             assert!(rt; detector.as_tile().is_none());
             match tile.as_tile() {
                 Some(tile) => tile,
@@ -72,7 +76,7 @@ fn starts_over<H: Abort>(
 }
 
 /// Texts with the line and the name of what refuses them.
-const REFUSED: [(&[u8], u32, FaultName); 56] = [
+const REFUSED: [(&[u8], u32, FaultName); 58] = [
     // Each number, below and above.
     (b"tinsel 1\nshape 0 1 1 1 1 1\n", 2, FaultName::Boards),
     (b"tinsel 1\nshape 1 5 1 1 1 1\n", 2, FaultName::Boards),
@@ -158,9 +162,20 @@ const REFUSED: [(&[u8], u32, FaultName); 56] = [
         FaultName::UnsupportedYet,
     ),
     (
-        b"tinsel 2\n\nshape 1 1 1 2 1 1\n",
+        b"tinsel 2\n\nshape 1 2 1 2 1 1\n",
         3,
         FaultName::UnsupportedYet,
+    ),
+    // More than one tile is there: this one lacks code.
+    (
+        b"tinsel 1\nshape 1 1 2 1 1 1\ncode 64\n80b01073\nend\n",
+        2,
+        FaultName::NoCode,
+    ),
+    (
+        b"tinsel 1\nshape 1 1 2 1 1 1\ncode 64\nend\ncode 256\nend\n",
+        5,
+        FaultName::BadTile,
     ),
     (
         b"tinsel 1\nshape 1 1 1 1 1 1\ntable 0 0\nend\n",
@@ -505,7 +520,7 @@ fn takes_the_least_and_the_greatest(rt: HostRuntime) -> Result<(), Fail> {
 }
 
 /// Whether thread 0 ends with this value in its first step.
-fn ends_with(world: &mut World, value: u32) -> Result<bool, Fail> {
+fn ends_with(world: &mut World<PlainLink>, value: u32) -> Result<bool, Fail> {
     let _did = step(world, &Event::Turn(ThreadId(0), 1))?;
     match world.parts() {
         [_, part, ..] => match part.as_tile() {

@@ -1,7 +1,7 @@
 //! What the machine does not have yet.
 
 ghost use Rattle.std.specs.Prelude.{◌≡◌, option_map};
-ghost use Rattle.job_load.specs.Faults.{earlier, first_line, tiles_line, unbuilt_fault, unbuilt_line};
+ghost use Rattle.job_load.specs.Faults.{boards_line, earlier, first_line, unbuilt_fault, unbuilt_line};
 
 use crate::fault::{FaultName, LoadFault};
 use crate::numbers::{fault_at, shape_line};
@@ -19,11 +19,11 @@ fn earlier(a: Option<u32>, b: Option<u32>) -> Option<u32>
     }
 }
 
-/// The shape's line, where the machine has more than one tile.
-fn tiles_line(shape: &Shape, lines: &ShapeNumbers) -> Option<u32>
-    ensures { result ≡ tiles_line shape.now lines.now }
+/// The shape's line, where the machine has more than one board.
+fn boards_line(shape: &Shape, lines: &ShapeNumbers) -> Option<u32>
+    ensures { result ≡ boards_line shape.now lines.now }
 {
-    if shape.tile_count() > 1 {
+    if shape.board_count() > 1 {
         Some(shape_line(lines))
     } else {
         None
@@ -59,7 +59,7 @@ fn unbuilt_line(shape: &Shape, job: &Job) -> Option<u32>
     let mut first = graph_line(&job.graph);
     first = earlier(first_script_line(job.script.as_slice()), first);
     first = earlier(first_table_line(job.tables.as_slice()), first);
-    earlier(tiles_line(shape, &job.number_lines), first)
+    earlier(boards_line(shape, &job.number_lines), first)
 }
 
 /// What the machine does not have yet, the first in order of lines.

@@ -1,11 +1,12 @@
 -- What is written.
-use Rattle.std.specs.Prelude.{ℕ, ◌+◌, ◌==◌, List, [], ◌++◌, ◌∷◌, codes, decimal, sum_by, if◌then◌else◌}
+use Rattle.std.specs.Prelude.{ℕ, ◌+◌, ◌==◌, List, [], ◌++◌, ◌∷◌, codes, decimal, if◌then◌else◌}
+use Rattle.tn_bag.specs.Law.{dropped_in}
 use Rattle.tn_base.specs.declared.event.Outcome.{Outcome}
 use Rattle.tn_base.specs.declared.event.Trap.{Trap}
 use Rattle.tn_base.specs.declared.event.Trap.TheVariants.{BadInstr, BadFetch, Misaligned, BadAddress, BadCsr, BadDest, SendBusy, RecvEmpty, BadFree, Environment, BadPin, BadLocalKey}
 use Rattle.tn_base.specs.declared.shape.ShapeNumbers.{ShapeNumbers}
 use Rattle.tn_base.specs.Address.{in_tile}
-use Rattle.tn_rows.specs.PartView.{PartView, TileV, AbsentV}
+use Rattle.tn_rows.specs.PartView.{PartView, TileV, LinkV, AbsentV}
 use Rattle.tn_rows.specs.WorldView.{WorldView}
 use Rattle.tn_text.specs.Hex.{hex_word_text}
 use Rattle.tn_thread.specs.declared.state.ThreadState.{ThreadState}
@@ -48,6 +49,7 @@ exits_from n tile place (t ∷ ts) = exit_text (in_tile n tile place) t.state ++
 
 abbrev pub part_exits : PartView → List ℕ
 part_exits (TileV v) = exits_from v.shape v.tile 0 v.threads
+part_exits (LinkV v) = []
 part_exits AbsentV = []
 
 -- those of all threads, by address
@@ -55,15 +57,7 @@ abbrev pub exits_text : List PartView → List ℕ
 exits_text [] = []
 exits_text (p ∷ ps) = part_exits p ++ exits_text ps
 
-abbrev pub part_dropped : PartView → ℕ
-part_dropped (TileV v) = v.dropped
-part_dropped AbsentV = 0
-
--- how many letters were dropped since their receivers were dead
-abbrev pub dropped_in : List PartView → ℕ
-dropped_in parts = sum_by part_dropped parts
-
--- `dropped N`, where any were
+-- `dropped N`, where any letters were dropped since their receivers were dead
 abbrev pub dropped_text : ℕ → List ℕ
 dropped_text count = if count == 0 then [] else codes "dropped " ++ decimal count ++ codes "\n"
 
@@ -77,4 +71,4 @@ outcome_text Outcome.Jammed = codes "jammed\n"
 
 -- the report of a run that ended so with this machine
 abbrev pub report_text : WorldView → Outcome → List ℕ
-report_text end outcome = exits_text end.parts ++ dropped_text (dropped_in end.parts) ++ outcome_text outcome
+report_text end outcome = exits_text end.parts ++ dropped_text (dropped_in end) ++ outcome_text outcome

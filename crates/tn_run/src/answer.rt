@@ -18,6 +18,7 @@ use job_text::read::read_job;
 use std::alloc::{AllocError, Global};
 use tn_bag::laws::law_flight;
 use tn_base::event::{Event, Outcome};
+use tn_link::plain::PlainLink;
 use tn_text::lines::law_line_count;
 use tn_world::events::{final_of, rest_outcome};
 use tn_world::play::play;
@@ -34,7 +35,7 @@ pub struct Output {
 }
 
 /// The machine of an input, at its start.
-fn load_input(alloc: Global, input: &[u8]) -> Result<World, LoadStop>
+fn load_input(alloc: Global, input: &[u8]) -> Result<World<PlainLink>, LoadStop>
     requires { length input.now ≤ 16777216 }
     ensures machine { Gives result (machine_of input.now) }
     ensures start { IfOk result IsStart }
@@ -52,14 +53,14 @@ fn load_input(alloc: Global, input: &[u8]) -> Result<World, LoadStop>
 }
 
 /// How a run ended with its last event, after which the machine is this one, where that event is final.
-fn final_after(world: &World, history: &[Event]) -> Option<Outcome>
+fn final_after(world: &World<PlainLink>, history: &[Event]) -> Option<Outcome>
     ensures { result ≡ final_after (last_of history.now) world.now }
 {
     final_of(world, history.last()?)
 }
 
 /// How a run ended, after which the machine is this one: no event is enabled where the last one is not final.
-fn outcome_of(world: &World, history: &[Event]) -> Outcome
+fn outcome_of(world: &World<PlainLink>, history: &[Event]) -> Outcome
     requires { MatchOption (final_after (last_of history.now) world.now) (Rests world.now) (λ _. ⊤) }
     ensures { IsOutcome history.now world.now result }
 {
@@ -70,7 +71,7 @@ fn outcome_of(world: &World, history: &[Event]) -> Outcome
 }
 
 /// Runs a machine and reports. The run is one of the bag machine, since the machine is at its start.
-fn run(alloc: Global, start: World, kept: &mut Kept) -> Result<Output, AllocError>
+fn run(alloc: Global, start: World<PlainLink>, kept: &mut Kept) -> Result<Output, AllocError>
     requires start { IsStart start }
     requires history { kept.old.history ≡ [] }
     ensures { IfOk result (λ output. IsRunOf start kept.new output.status output.text.items) }

@@ -4,12 +4,13 @@ ghost use Rattle.std.specs.Prelude.{◌≡◌, None, [], option_copied};
 use crate::history::History;
 use std::alloc::Global;
 use std::marker::Model;
+use tn_link::plain::PlainLink;
 use tn_world::world::World;
 
 /// The machine at its start, where a job was accepted, and the events of its run. Each call sets it anew.
 #[derive(Drop)]
 pub struct Kept {
-    pub(crate) start: Option<World>,
+    pub(crate) start: Option<World<PlainLink>>,
     pub(crate) history: History,
 }
 
@@ -34,7 +35,7 @@ impl Kept {
     }
 
     /// The machine at its start, where a job was accepted.
-    pub fn start(&self) -> Option<&World>
+    pub fn start(&self) -> Option<&World<PlainLink>>
         ensures { option_copied result ≡ self.now.start }
     {
         self.start.as_ref()

@@ -1,11 +1,13 @@
 //! The lines that a run writes.
-ghost use Rattle.std.specs.Prelude.{◌≡◌, ◌++◌, IfOk, OnOk, codes};
+ghost use Rattle.std.specs.Prelude.{◌≡◌, ◌++◌, IfOk, OnOk, codes, sum_by};
+ghost use Rattle.tn_bag.specs.Law.{dropped_on};
 ghost use Rattle.tn_text.specs.Hex.{hex_word_text};
-ghost use Rattle.tn_run.specs.Report.{dropped_in, dropped_text, exit_text, exits_from, exits_text, outcome_text, part_dropped, part_exits, refusal_text, report_text, trap_text};
+ghost use Rattle.tn_run.specs.Report.{dropped_text, exit_text, exits_from, exits_text, outcome_text, part_exits, refusal_text, report_text, trap_text};
 
 use job_load::fault::LoadFault;
 use std::alloc::{AllocError, Global};
 use tn_base::event::{Outcome, Trap};
+use tn_link::plain::PlainLink;
 use tn_text::print::{push_decimal, push_hex_word};
 use tn_thread::state::ThreadState;
 use tn_tile::tile::Tile;
@@ -82,7 +84,7 @@ fn push_tile_exits(alloc: Global, text: &mut Vec<u8>, tile: &Tile) -> Result<(),
 }
 
 /// Appends the lines of all threads that ended, by address.
-fn push_exits(alloc: Global, text: &mut Vec<u8>, parts: &[Part]) -> Result<(), AllocError>
+fn push_exits(alloc: Global, text: &mut Vec<u8>, parts: &[Part<PlainLink>]) -> Result<(), AllocError>
     ensures { OnOk result (text.new.items ≡ text.old.items ++ exits_text parts.now) }
 {
     for part in parts {
@@ -92,7 +94,7 @@ fn push_exits(alloc: Global, text: &mut Vec<u8>, parts: &[Part]) -> Result<(), A
 }
 
 /// Appends the lines of the threads of a part that ended.
-fn push_part_exits(alloc: Global, text: &mut Vec<u8>, part: &Part) -> Result<(), AllocError>
+fn push_part_exits(alloc: Global, text: &mut Vec<u8>, part: &Part<PlainLink>) -> Result<(), AllocError>
     ensures { OnOk result (text.new.items ≡ text.old.items ++ part_exits part.now) }
 {
     match part.as_tile() {
@@ -102,8 +104,8 @@ fn push_part_exits(alloc: Global, text: &mut Vec<u8>, part: &Part) -> Result<(),
 }
 
 /// How many letters were dropped on a part since their receivers were dead.
-fn dropped_on(part: &Part) -> u64
-    ensures { result ≡ part_dropped part.now }
+fn dropped_on(part: &Part<PlainLink>) -> u64
+    ensures { result ≡ dropped_on part.now }
 {
     match part.as_tile() {
         Some(tile) => tile.dropped(),
@@ -112,8 +114,8 @@ fn dropped_on(part: &Part) -> u64
 }
 
 /// How many letters were dropped since their receivers were dead.
-fn count_dropped(parts: &[Part]) -> u128
-    ensures { result ≡ dropped_in parts.now }
+fn count_dropped(parts: &[Part<PlainLink>]) -> u128
+    ensures { result ≡ sum_by dropped_on parts.now }
 {
     let mut count = 0;
     for part in parts {
@@ -167,7 +169,7 @@ fn push_outcome(alloc: Global, text: &mut Vec<u8>, outcome: Outcome) -> Result<(
 }
 
 /// The report of a run that ended so with this machine.
-pub fn report(alloc: Global, end: &World, outcome: Outcome) -> Result<Vec<u8>, AllocError>
+pub fn report(alloc: Global, end: &World<PlainLink>, outcome: Outcome) -> Result<Vec<u8>, AllocError>
     ensures { IfOk result (λ text. text.items ≡ report_text end.now outcome) }
 {
     let mut text = Vec::new(alloc);
