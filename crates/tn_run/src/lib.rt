@@ -10,6 +10,8 @@ pub mod answer;
 mod fault_tests;
 pub mod history;
 pub mod kept;
+#[cfg(test)]
+mod mesh_tests;
 pub mod plain;
 #[cfg(test)]
 mod program_tests;

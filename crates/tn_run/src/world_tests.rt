@@ -7,6 +7,7 @@ use std::process::Abort;
 use std::test::Fail;
 use tn_base::event::{Event, Outcome, Trap};
 use tn_base::ids::{PartId, ThreadId};
+use tn_link::plain::PlainLink;
 use tn_text::lines::law_line_count;
 use tn_tile::deliver::Did;
 use tn_world::events::{enabled, final_of, rest_outcome, step};
@@ -26,7 +27,7 @@ const SENDER: &[u8] =
     b"tinsel 1\nshape 1 1 1 1 1 1\nturn 3\ncode all\n80301073\n80601073\n00000000\nend\n";
 
 /// The machine of a job at its start.
-fn machine<H: Abort>(rt: &H, alloc: Global, text: &[u8]) -> Result<World, Fail> {
+pub(crate) fn machine<H: Abort>(rt: &H, alloc: Global, text: &[u8]) -> Result<World<PlainLink>, Fail> {
     law_line_count(text);
     if text.len() > 1000 {
         panic!(rt; "the job is too long");
@@ -41,7 +42,7 @@ fn machine<H: Abort>(rt: &H, alloc: Global, text: &[u8]) -> Result<World, Fail> 
 }
 
 /// The event is enabled or not, as it should be.
-fn makes<H: Abort>(rt: &H, world: &mut World, event: Event, did: Did) -> Result<(), Fail> {
+pub(crate) fn makes<H: Abort>(rt: &H, world: &mut World<PlainLink>, event: Event, did: Did) -> Result<(), Fail> {
     assert_eq!(rt; step(world, &event)?, did);
     Ok(())
 }

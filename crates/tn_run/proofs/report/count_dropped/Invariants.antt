@@ -1,9 +1,9 @@
-use Rattle.std.proofs.Common.{◌≡◌, ◌+◌, ◌*◌, ◌≤◌, ◌^◌, drop}
-use Rattle.tn_run.specs.Report.{dropped_in}
+use Rattle.std.proofs.Common.{◌≡◌, ◌+◌, ◌*◌, ◌≤◌, ◌^◌, drop, sum_by}
+use Rattle.tn_bag.specs.Law.{dropped_on}
 use Rattle.tn_run.proofs.report.count_dropped.Given as goal
 
 abbrev pub invariant-loop-part : goal.invariant-loop-part
 invariant-loop-part l = record {
-  sum : l.count + dropped_in (drop l.part-index l.parts) ≡ dropped_in l.parts;
+  sum : l.count + sum_by dropped_on (drop l.part-index l.parts) ≡ sum_by dropped_on l.parts;
   small : l.count ≤ l.part-index * 2 ^ 64;
 }
