@@ -24,6 +24,13 @@ CALLING = (
 REGISTERS = (
     "add sub sll slt sltu xor srl sra or and mul mulh mulhsu mulhu div divu rem remu"
 ).split()
+# Mnemonics that have the same arguments, and for each of them two lines.
+PAIRS = [
+    ("addi slti sltiu xori ori andi", "a0, s1, -2048", "t6, zero, 2047"),
+    ("slli srli srai", "a0, a1, 0", "s11, t3, 31"),
+    ("lb lh lw lbu lhu jalr", "a0, -2048(sp)", "gp, 0x7ff ( tp )"),
+    ("sb sh sw", "a0, -1(sp)", "x31, 1365(x21)"),
+]
 TARGETS = {"beq", "bne", "blt", "bge", "bltu", "bgeu", "jal", "j", "beqz", "bnez"}
 
 
@@ -31,18 +38,9 @@ def lines():
     """The lines of the table."""
     for k, name in enumerate(REGISTERS):
         yield f"{name} x{k + 1}, x{31 - k}, x{(7 * k + 5) % 32}"
-    for name in "addi slti sltiu xori ori andi".split():
-        yield f"{name} a0, s1, -2048"
-        yield f"{name} t6, zero, 2047"
-    for name in "slli srli srai".split():
-        yield f"{name} a0, a1, 0"
-        yield f"{name} s11, t3, 31"
-    for name in "lb lh lw lbu lhu jalr".split():
-        yield f"{name} a0, -2048(sp)"
-        yield f"{name} gp, 0x7ff ( tp )"
-    for name in "sb sh sw".split():
-        yield f"{name} a0, -1(sp)"
-        yield f"{name} x31, 1365(x21)"
+    for names, *rest in PAIRS:
+        for name in names.split():
+            yield from (f"{name} {arguments}" for arguments in rest)
     yield "back:"
     for name in "beq bne blt bge bltu bgeu".split():
         yield f"{name} a0, a1, -4096"
