@@ -6,9 +6,9 @@ Runs `PROGRAM run` on a ring of 4 and a ring of 16 tiles, in which neighbours pa
 each (5 where it is left out), and takes the least user time of each. An event's cost must not grow with the number of
 parts. The reports are compared with what they must be.
 """
-import resource
-import subprocess
 import sys
+
+from timing import user_time
 
 HOPS = 96_000
 # Where the ring of each board goes, by the x and y of its tiles: each is a neighbour of the one before it.
@@ -56,14 +56,6 @@ def job_of(size):
         lines.append(f"asm {address(tile)}\n" + BODY.format(rounds=rounds, first=int(k == 0), next=address(after)) + "end\n")
     last = {address(tile): HOPS - len(ring) + (k or len(ring)) for k, tile in enumerate(ring)}
     return "".join(lines), "".join(f"exit {a} {last[a]}\n" for a in sorted(last)) + "done\n"
-
-
-def user_time(program, job, want):
-    before = resource.getrusage(resource.RUSAGE_CHILDREN).ru_utime
-    got = subprocess.run([program, "run"], input=job.encode(), capture_output=True).stdout.decode()
-    if got != want:
-        sys.exit("time_mesh: another report than expected:\n" + got)
-    return resource.getrusage(resource.RUSAGE_CHILDREN).ru_utime - before
 
 
 def main():

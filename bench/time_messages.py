@@ -6,9 +6,9 @@ Runs `PROGRAM run` on the jobs of bench/jobs and on a thread that jumps to itsel
 (5 where it is left out), and takes the least user time of each. The reports are compared with what they must be.
 """
 import os
-import resource
-import subprocess
 import sys
+
+from timing import user_time
 
 HERE = os.path.dirname(os.path.abspath(__file__))
 SPIN = "tinsel 1\nshape 1 1 1 1 1 1\ncode all\n0000006f\nend\n"
@@ -16,14 +16,6 @@ JOBS = [
     ("ping-pong", 200_000, "exit 0 200000\nexit 1 200000\ndone\n"),
     ("multicast", 315_000, "".join(f"exit {t} {12502500 if t else 0}\n" for t in range(64)) + "done\n"),
 ]
-
-
-def user_time(program, job, want):
-    before = resource.getrusage(resource.RUSAGE_CHILDREN).ru_utime
-    got = subprocess.run([program, "run"], input=job.encode(), capture_output=True).stdout.decode()
-    if got != want:
-        sys.exit("time_messages: another report than expected:\n" + got)
-    return resource.getrusage(resource.RUSAGE_CHILDREN).ru_utime - before
 
 
 def main():
