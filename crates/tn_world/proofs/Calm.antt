@@ -2,14 +2,15 @@
 use Rattle.std.specs.declared.option.Option.{Option}
 use Rattle.std.specs.declared.result.Result.{Result}
 use Rattle.std.specs.declared.result.Result.TheVariants.{Ok, Err}
-use Rattle.std.proofs.Common.{◌≡◌, ℕ, ◌≤◌, ◌<◌, length, length-append, is_some, true, false, arith, List, [], ◌∷◌, ◌++◌, None, Some, refl, sym, subst, MatchOption, MatchResult, IsErr}
+use Rattle.std.proofs.Common.{◌≡◌, ℕ, ◌≤◌, ◌<◌, length, length-append, is_some, true, false, arith, List, [], ◌∷◌, ◌++◌, None, Some, refl, sym, subst, MatchOption, MatchResult, IsErr, ap, ◌∙◌}
 use Rattle.tn_base.specs.declared.event.Event.{Event}
 use Rattle.tn_base.specs.declared.event.Outcome.{Outcome}
 use Rattle.tn_rows.specs.Ends.{final_after, final_of, last_of}
 use Rattle.tn_rows.specs.Events.{happened, Rests}
 use Rattle.tn_rows.specs.Runs.{IsLongest, LongRun}
 use Rattle.tn_rows.specs.WorldView.{WorldView}
-use Rattle.tn_world.specs.Plays.{Makes, Played, Reached}
+use Rattle.tn_world.proofs.Listed.{first_some, is_here}
+use Rattle.tn_world.specs.Plays.{First, Makes, Played, Reached}
 
 -- each event is enabled in turn, turns are the longest, and none is final
 abbrev pub Calm : WorldView → List Event → WorldView → Type 0
@@ -95,3 +96,14 @@ reached start history mid end e calm step = (history ++ e ∷ [], calm_final sta
 pub on_error : {X E : Type 0} (r : Result X E) (P : X → Type 0) (Q : Type 0) → IsErr r → Q → MatchResult r P (λ _. Q)
 on_error (Ok x) P Q err q = cc err
 on_error (Err e) P Q err q = q
+
+-- the first event that is enabled is made
+by_made : (r : Option Event) (old new : WorldView) (xs : List Event) (e : Event) → First old xs e → MatchOption r ((new ≡ old) × (happened e old ≡ None)) (λ m. Makes m old new) → MatchOption r ((new ≡ old) × Rests old) (λ m. Makes m old new)
+by_made None old new xs e first made =
+    let some : is_some (happened e old) ≡ true = is_here (happened e old) (first_some old xs e first) in
+    let none : is_some (happened e old) ≡ false = ap (λ (o : Option WorldView). is_some o) made.1 in
+    let clash : true ≡ false = sym some ∙ none in cc clash
+by_made (Some m) old new xs e first made = made
+
+pub next_made : (r : Option Event) (old mid new : WorldView) (xs : List Event) (e : Event) → mid ≡ old → First mid xs e → MatchOption r ((new ≡ mid) × (happened e mid ≡ None)) (λ m. Makes m mid new) → MatchOption r ((new ≡ old) × Rests old) (λ m. Makes m old new)
+next_made r old mid new xs e same first made = subst (λ (o : WorldView). MatchOption r ((new ≡ o) × Rests o) (λ m. Makes m o new)) same (by_made r mid new xs e first made)

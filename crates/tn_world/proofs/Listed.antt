@@ -1,130 +1,347 @@
--- Machines in which no thread can do anything, and the first event that is enabled.
-use Rattle.std.proofs.Common.{◌≡◌, ℕ, zero, suc, ◌+◌, ◌<◌, ◌≤◌, ◌++◌, [], Bool, true, false, IsTrue, IsSome, List, map, None, Some, refl, sym, subst, ap, arith, inl, inr}
+-- The first event of a list that is enabled, and machines in which none is.
+use Rattle.std.proofs.Common.{◌≡◌, ℕ, zero, suc, ◌+◌, ◌<◌, ◌≤◌, ◌++◌, [], ◌∷◌, Bool, true, false, cond, IsTrue, IsSome, List, map, None, Some, refl, sym, subst, ap, arith, inl, inr, ◌⊎◌, is_some, length, rules, option_and_then, option_map, MatchOption}
 use Rattle.std.specs.declared.option.Option.{Option}
-use Rattle.std.specs.List.{range_with_len, slice_get}
+use Rattle.std.specs.List.{flat_map, range_with_len, slice_get}
+use Rattle.std.proofs.lemmas.Bool.{cases_order}
 use Rattle.tn_base.specs.declared.event.Event.{Event}
 use Rattle.tn_base.specs.declared.event.Event.TheVariants as event
+use Rattle.tn_base.specs.declared.ids.PartId.{PartId}
 use Rattle.tn_base.specs.declared.ids.ThreadId.{ThreadId}
 use Rattle.tn_base.specs.declared.shape.ShapeNumbers.{ShapeNumbers}
-use Rattle.tn_base.specs.Address.{has_thread, thread_at}
+use Rattle.tn_base.specs.Address.{has_thread, thread_at, tile_of, tile_place}
+use Rattle.tn_base.specs.Parts.{kind_of, part_count, tile_part}
 use Rattle.tn_base.specs.Shape.{thread_count}
-use Rattle.std.proofs.Common.{append-nil, is_some, option_and_then, option_map}
-use Rattle.std.proofs.lemmas.Bool.{cases_order}
-use Rattle.tn_rows.specs.PartView.{PartView, TileV, AbsentV}
+use Rattle.tn_rows.proofs.Meeting.{none_is}
+use Rattle.tn_rows.specs.Events.{after, happened, happened_at, with_part, Rests}
+use Rattle.tn_rows.specs.Listed.{arrivals, arrivals_from, deliveries, departures, departures_from, event_if, listed, nth_thread, part_id, turns}
+use Rattle.tn_rows.specs.PartView.{PartView, TileV, LinkV, AbsentV}
+use Rattle.tn_rows.specs.Places.{at_part, leads_from, leads_to, part_of, two_if}
+use Rattle.tn_rows.specs.WorldView.{WorldView}
+use Rattle.tn_stamp.specs.declared.entry.Crossing.TheVariants as crossing
 use Rattle.tn_tile.specs.Rows.{turn_row}
 use Rattle.tn_tile.specs.TileView.{TileView}
+use Rattle.tn_world.proofs.Others.{high_past, joined, low_past, never}
 use Rattle.tn_world.proofs.Steps.{row_one}
-use Rattle.tn_rows.specs.Events.{after, with_part, happened, happened_at, listed, nth_thread, part_of, Rests}
-use Rattle.tn_rows.specs.WorldView.{WorldView}
-use Rattle.tn_world.specs.Plays.{First, Stuck}
+use Rattle.tn_world.specs.Plays.{First, NoneOf}
 
--- an address that no thread of the machine has
-no_part : (n : ShapeNumbers) (t : ThreadId) → has_thread n t.0 ≡ false → part_of n t ≡ None
-no_part n t h = rw h refl
-
--- each thread of the machine stands in the list
-abbrev pub Each : ShapeNumbers → Type 0
-Each n = (a : ℕ) → IsTrue (has_thread n a) → (i : ℕ) × (i < thread_count n) × (thread_at n i ≡ a)
-
-stuck_by : (w : WorldView) (t : ThreadId) (b : Bool) → has_thread w.shape t.0 ≡ b → Each w.shape → ((i : ℕ) → i < thread_count w.shape → Stuck w (nth_thread w.shape i)) → Stuck w t
-stuck_by w t true is each all =
-    let got = each t.0 is in
-    let same : nth_thread w.shape got.0 ≡ t = ap (λ a. record { 0 = a }) got.2 in
-    subst (Stuck w) same (all got.0 got.1)
-stuck_by w t false is each all = record {
-  turn = λ m. rw (no_part w.shape t is) refl;
-  deliver = rw (no_part w.shape t is) refl;
-}
-
--- where no thread of the list can do anything, no event is enabled
-pub rests : (w : WorldView) → Each w.shape → ((i : ℕ) → i < thread_count w.shape → Stuck w (nth_thread w.shape i)) → Rests w
-rests w each all (event.Turn t n) = (stuck_by w t (has_thread w.shape t.0) refl each all).turn n
-rests w each all (event.Deliver t) = (stuck_by w t (has_thread w.shape t.0) refl each all).deliver
-rests w each all _ = refl
+-- ---- turns of one step stand for all
 
 none_mapped : (o : Option TileView) → option_map TileV o ≡ None → o ≡ None
 none_mapped None e = refl
 none_mapped (Some v) e = cc e
 
-none_placed : (w : WorldView) (p : ℕ) (o : Option PartView) → with_part w p o ≡ None → o ≡ None
+none_placed : (w : WorldView) (p : ℕ) (o : Option PartView) → option_map (with_part w p) o ≡ None → o ≡ None
 none_placed w p None e = refl
 none_placed w p (Some v) e = cc e
 
-part_one : (t : ThreadId) (m : ℕ) (o : Option PartView) → option_and_then (after (event.Turn t 1)) o ≡ None → option_and_then (after (event.Turn t m)) o ≡ None
+part_one : (t : ThreadId) (m : ℕ) (o : Option PartView) → option_and_then (after (event.Turn t 1) crossing.None) o ≡ None → option_and_then (after (event.Turn t m) crossing.None) o ≡ None
 part_one t m None e = refl
-part_one t m (Some (TileV v)) e = rw (row_one t.0 m v (none_mapped (turn_row t.0 1 v) e)) refl
+part_one t m (Some (TileV v)) e = ap (λ o. option_map TileV o) (row_one t.0 m v (none_mapped (turn_row t.0 1 v) e))
+part_one t m (Some (LinkV v)) e = refl
 part_one t m (Some AbsentV) e = refl
 
-at_one : (w : WorldView) (t : ThreadId) (m : ℕ) (o : Option ℕ) → happened_at (event.Turn t 1) w o ≡ None → happened_at (event.Turn t m) w o ≡ None
+at_one : (w : WorldView) (t : ThreadId) (m : ℕ) (o : Option ℕ) → happened_at (event.Turn t 1) w (at_part o) ≡ None → happened_at (event.Turn t m) w (at_part o) ≡ None
 at_one w t m None e = refl
-at_one w t m (Some p) e = rw (part_one t m (slice_get w.parts p) (none_placed w p _ e)) refl
+at_one w t m (Some p) e = ap (λ o. option_map (with_part w p) o) (part_one t m (slice_get w.parts p) (none_placed w p _ e))
 
 -- a thread that cannot make one step makes no turn
 pub no_turns : (w : WorldView) (t : ThreadId) (m : ℕ) → happened (event.Turn t 1) w ≡ None → happened (event.Turn t m) w ≡ None
 no_turns w t m e = at_one w t m (part_of w.shape t) e
 
--- the first event of a list that is enabled
-pub first_at : (w : WorldView) (f : ℕ → Event) (i count j : ℕ) (tail : List Event) → i ≤ j → j < i + count → ((k : ℕ) → k < j → happened (f k) w ≡ None) → IsSome (happened (f j) w) → First w (map f (range_with_len i count) ++ tail) (f j)
-first_at w f i zero j tail low high none some = absurd (omega arith)
-first_at w f i (suc count) j tail low high none some = elim (cases_order i j) [
-  | inl e ↦ inl (ap f e, rw e some)
+-- a thread that the machine has not makes nothing
+pub no_thread : (w : WorldView) (e : Event) (t : ThreadId) → has_thread w.shape t.0 ≡ false → happened_at e w (at_part (part_of w.shape t)) ≡ None
+no_thread w e t h = ap (λ b. happened_at e w (at_part (cond b (Some (tile_part (tile_place w.shape (tile_of t.0)))) None))) h
+
+-- ---- lists of events
+
+pub none_append : (w : WorldView) (xs ys : List Event) → NoneOf w xs → NoneOf w ys → NoneOf w (xs ++ ys)
+none_append w [] ys a b = b
+none_append w (x ∷ xs) ys a b = (a.0, none_append w xs ys a.1 b)
+
+none_left : (w : WorldView) (xs ys : List Event) → NoneOf w (xs ++ ys) → NoneOf w xs
+none_left w [] ys a = tt
+none_left w (x ∷ xs) ys a = (a.0, none_left w xs ys a.1)
+
+none_right : (w : WorldView) (xs ys : List Event) → NoneOf w (xs ++ ys) → NoneOf w ys
+none_right w [] ys a = a
+none_right w (x ∷ xs) ys a = none_right w xs ys a.1
+
+pub first_left : (w : WorldView) (xs ys : List Event) (e : Event) → First w xs e → First w (xs ++ ys) e
+first_left w [] ys e a = absurd a
+first_left w (x ∷ xs) ys e (inl a) = inl a
+first_left w (x ∷ xs) ys e (inr a) = inr (a.0, first_left w xs ys e a.1)
+
+pub first_right : (w : WorldView) (xs ys : List Event) (e : Event) → NoneOf w xs → First w ys e → First w (xs ++ ys) e
+first_right w [] ys e a f = f
+first_right w (x ∷ xs) ys e a f = inr (a.0, first_right w xs ys e a.1 f)
+
+-- the first event that is enabled is enabled
+pub first_some : (w : WorldView) (xs : List Event) (e : Event) → First w xs e → IsSome (happened e w)
+first_some w [] e f = absurd f
+first_some w (x ∷ xs) e (inl a) = subst (λ x. IsSome (happened x w)) a.0 a.1
+first_some w (x ∷ xs) e (inr a) = first_some w xs e a.1
+
+-- an event for each number
+pub none_mapped_all : (w : WorldView) (f : ℕ → Event) (i n : ℕ) → ((k : ℕ) → i ≤ k → k < i + n → happened (f k) w ≡ None) → NoneOf w (map f (range_with_len i n))
+none_mapped_all w f i zero all = tt
+none_mapped_all w f i (suc n) all = (all i (omega arith) (omega arith), none_mapped_all w f (i + 1) n (λ k low high. all k (omega arith) (omega arith)))
+
+mapped_none : (w : WorldView) (f : ℕ → Event) (i n k : ℕ) → NoneOf w (map f (range_with_len i n)) → i ≤ k → k < i + n → happened (f k) w ≡ None
+mapped_none w f i zero k none low high = absurd (omega arith)
+mapped_none w f i (suc n) k none low high = elim (cases_order i k) [
+  | inl e ↦ subst (λ j. happened (f j) w ≡ None) e none.0
   | inr less ↦ elim less [
-    | inl up ↦ inr (none i up, first_at w f (i + 1) count j tail (omega arith) (omega arith) none some)
+    | inl up ↦ mapped_none w f (i + 1) n k none.1 (omega arith) (omega arith)
     | inr down ↦ absurd (omega arith)
   ]
 ]
 
-pub first_behind : (w : WorldView) (f : ℕ → Event) (i count : ℕ) (tail : List Event) (e : Event) → ((k : ℕ) → k < i + count → happened (f k) w ≡ None) → First w tail e → First w (map f (range_with_len i count) ++ tail) e
-first_behind w f i zero tail e none first = first
-first_behind w f i (suc count) tail e none first = inr (none i (omega arith), first_behind w f (i + 1) count tail e (λ k h. none k (omega arith)) first)
+first_mapped : (w : WorldView) (f : ℕ → Event) (i n j : ℕ) → i ≤ j → j < i + n → ((k : ℕ) → k < j → happened (f k) w ≡ None) → IsSome (happened (f j) w) → First w (map f (range_with_len i n)) (f j)
+first_mapped w f i zero j low high none some = absurd (omega arith)
+first_mapped w f i (suc n) j low high none some = elim (cases_order i j) [
+  | inl e ↦ inl (ap f e, subst (λ j. IsSome (happened (f j) w)) (sym e) some)
+  | inr less ↦ elim less [
+    | inl up ↦ inr (none i up, first_mapped w f (i + 1) n j (omega arith) (omega arith) none some)
+    | inr down ↦ absurd (omega arith)
+  ]
+]
 
--- the first event by thread is a turn, or a delivery
-abbrev pub NoTurn : WorldView → ℕ → Type 0
-NoTurn w n = (k : ℕ) → k < n → happened (event.Turn (nth_thread w.shape k) 1) w ≡ None
+-- a list of events for each number
+none_flat : (w : WorldView) (f : ℕ → List Event) (i n : ℕ) → ((k : ℕ) → i ≤ k → k < i + n → NoneOf w (f k)) → NoneOf w (flat_map f (range_with_len i n))
+none_flat w f i zero all = tt
+none_flat w f i (suc n) all = none_append w (f i) (flat_map f (range_with_len (i + 1) n)) (all i (omega arith) (omega arith)) (none_flat w f (i + 1) n (λ k low high. all k (omega arith) (omega arith)))
 
-abbrev pub NoDelivery : WorldView → ℕ → Type 0
-NoDelivery w n = (k : ℕ) → k < n → happened (event.Deliver (nth_thread w.shape k)) w ≡ None
+flat_none : (w : WorldView) (f : ℕ → List Event) (i n k : ℕ) → NoneOf w (flat_map f (range_with_len i n)) → i ≤ k → k < i + n → NoneOf w (f k)
+flat_none w f i zero k none low high = absurd (omega arith)
+flat_none w f i (suc n) k none low high = elim (cases_order i k) [
+  | inl e ↦ subst (λ j. NoneOf w (f j)) e (none_left w (f i) (flat_map f (range_with_len (i + 1) n)) none)
+  | inr less ↦ elim less [
+    | inl up ↦ flat_none w f (i + 1) n k (none_right w (f i) (flat_map f (range_with_len (i + 1) n)) none) (omega arith) (omega arith)
+    | inr down ↦ absurd (omega arith)
+  ]
+]
 
-named : (n : ShapeNumbers) (t : ThreadId) (i : ℕ) → t.0 ≡ thread_at n i → nth_thread n i ≡ t
-named n t i e = rw e refl
+first_flat : (w : WorldView) (f : ℕ → List Event) (i n j : ℕ) (e : Event) → i ≤ j → j < i + n → ((k : ℕ) → k < j → NoneOf w (f k)) → First w (f j) e → First w (flat_map f (range_with_len i n)) e
+first_flat w f i zero j e low high none first = absurd (omega arith)
+first_flat w f i (suc n) j e low high none first = elim (cases_order i j) [
+  | inl is ↦ first_left w (f i) (flat_map f (range_with_len (i + 1) n)) e (subst (λ j. First w (f j) e) (sym is) first)
+  | inr less ↦ elim less [
+    | inl up ↦ first_right w (f i) (flat_map f (range_with_len (i + 1) n)) e (none i up) (first_flat w f (i + 1) n j e (omega arith) (omega arith) none first)
+    | inr down ↦ absurd (omega arith)
+  ]
+]
 
-pub first_turn : (w : WorldView) (t : ThreadId) (i : ℕ) → t.0 ≡ thread_at w.shape i → i < thread_count w.shape → NoTurn w i → IsSome (happened (event.Turn t 1) w) → First w (listed w.shape) (event.Turn t 1)
-first_turn w t i e h none some = subst (λ (t : ThreadId). First w (listed w.shape) (event.Turn t 1)) (named w.shape t i e)
-    (first_at w (λ i. event.Turn (nth_thread w.shape i) 1) 0 (thread_count w.shape) i _ (omega arith) (omega arith) none (subst (λ (t : ThreadId). IsSome (happened (event.Turn t 1) w)) (sym (named w.shape t i e)) some))
+none_if : (w : WorldView) (there : Bool) (e : Event) → happened e w ≡ None → NoneOf w (event_if there e)
+none_if w true e h = (h, tt)
+none_if w false e h = tt
 
-behind_all : (w : WorldView) (f : ℕ → Event) (n i : ℕ) → i < n → ((k : ℕ) → k < i → happened (f k) w ≡ None) → IsSome (happened (f i) w) → First w (map f (range_with_len 0 n)) (f i)
-behind_all w f n i h none some = rw (append-nil (map f (range_with_len 0 n))) at (first_at w f 0 n i [] (omega arith) (omega arith) none some)
+if_none : (w : WorldView) (there : Bool) (e : Event) → NoneOf w (event_if there e) → there ≡ true → happened e w ≡ None
+if_none w true e h is = h.0
+if_none w false e h is = cc is
 
-pub first_delivery : (w : WorldView) (t : ThreadId) (i : ℕ) → t.0 ≡ thread_at w.shape i → i < thread_count w.shape → NoTurn w (thread_count w.shape) → NoDelivery w i → IsSome (happened (event.Deliver t) w) → First w (listed w.shape) (event.Deliver t)
-first_delivery w t i e h turns none some =
-    subst (λ (t : ThreadId). First w (listed w.shape) (event.Deliver t)) (named w.shape t i e) (first_behind w (λ i. event.Turn (nth_thread w.shape i) 1) 0 (thread_count w.shape) _ _ (λ k l. turns k (omega arith))
-    (behind_all w (λ i. event.Deliver (nth_thread w.shape i)) (thread_count w.shape) i h none (subst (λ (t : ThreadId). IsSome (happened (event.Deliver t) w)) (sym (named w.shape t i e)) some)))
+first_if : (w : WorldView) (there : Bool) (e : Event) → there ≡ true → IsSome (happened e w) → First w (event_if there e) e
+first_if w true e is some = inl (refl, some)
+first_if w false e is some = cc is
 
--- none of either
-pub none_listed : (w : WorldView) → Each w.shape → NoTurn w (thread_count w.shape) → NoDelivery w (thread_count w.shape) → Rests w
-none_listed w each turns deliveries = rests w each (λ i h. record {
-  turn = λ m. no_turns w (nth_thread w.shape i) m (turns i h);
-  deliver = deliveries i h;
-})
-
--- one thread more
-none_is : {A : Type 0} (o : Option A) → is_some o ≡ false → o ≡ None
-none_is None e = refl
-none_is (Some x) e = cc e
-
-more : (P : ℕ → Type 0) (i : ℕ) → ((k : ℕ) → k < i → P k) → P i → (k : ℕ) → k < i + 1 → P k
+-- one number more
+pub more : (P : ℕ → Type 0) (i : ℕ) → ((k : ℕ) → k < i → P k) → P i → (k : ℕ) → k < i + 1 → P k
 more P i all here k h = elim (cases_order k i) [
-  | inl e ↦ rw e here
+  | inl e ↦ subst P (sym e) here
   | inr less ↦ elim less [ inl down ↦ all k down | inr up ↦ absurd (omega arith) ]
 ]
 
-pub more_turns : (w : WorldView) (t : ThreadId) (i : ℕ) → t.0 ≡ thread_at w.shape i → is_some (happened (event.Turn t 1) w) ≡ false → NoTurn w i → NoTurn w (i + 1)
-more_turns w t i e not all = more (λ k. happened (event.Turn (nth_thread w.shape k) 1) w ≡ None) i all
-    (subst (λ (t : ThreadId). happened (event.Turn t 1) w ≡ None) (sym (named w.shape t i e)) (none_is (happened (event.Turn t 1) w) not))
+some_is : {A : Type 0} (o : Option A) → is_some o ≡ true → IsSome o
+some_is None e = cc e
+some_is (Some x) e = search rules
 
-pub more_deliveries : (w : WorldView) (t : ThreadId) (i : ℕ) → t.0 ≡ thread_at w.shape i → is_some (happened (event.Deliver t) w) ≡ false → NoDelivery w i → NoDelivery w (i + 1)
-more_deliveries w t i e not all = more (λ k. happened (event.Deliver (nth_thread w.shape k)) w ≡ None) i all
-    (subst (λ (t : ThreadId). happened (event.Deliver t) w ≡ None) (sym (named w.shape t i e)) (none_is (happened (event.Deliver t) w) not))
+pub is_here : {A : Type 0} (o : Option A) → IsSome o → is_some o ≡ true
+is_here None e = search rules
+is_here (Some x) e = refl
 
-pub more_stuck : (w : WorldView) (t : ThreadId) (i : ℕ) → t.0 ≡ thread_at w.shape i → Stuck w t → ((k : ℕ) → k < i → Stuck w (nth_thread w.shape k)) → (k : ℕ) → k < i + 1 → Stuck w (nth_thread w.shape k)
-more_stuck w t i e here all = more (λ k. Stuck w (nth_thread w.shape k)) i all (subst (Stuck w) (sym (named w.shape t i e)) here)
+-- ---- turns and deliveries, by thread
+
+named : (n : ShapeNumbers) (t : ThreadId) (i : ℕ) → t.0 ≡ thread_at n i → nth_thread n i ≡ t
+named n t i e = ap (λ (a : ℕ). record { 0 = a }) (sym e)
+
+abbrev pub NoTurn : WorldView → ℕ → Type 0
+NoTurn w k = happened (event.Turn (nth_thread w.shape k) 1) w ≡ None
+
+abbrev pub NoDelivery : WorldView → ℕ → Type 0
+NoDelivery w k = happened (event.Deliver (nth_thread w.shape k)) w ≡ None
+
+pub turn_none : (w : WorldView) (t : ThreadId) (i : ℕ) → t.0 ≡ thread_at w.shape i → is_some (happened (event.Turn t 1) w) ≡ false → NoTurn w i
+turn_none w t i e not = subst (λ (t : ThreadId). happened (event.Turn t 1) w ≡ None) (sym (named w.shape t i e)) (none_is (happened (event.Turn t 1) w) not)
+
+pub delivery_none : (w : WorldView) (t : ThreadId) (i : ℕ) → t.0 ≡ thread_at w.shape i → is_some (happened (event.Deliver t) w) ≡ false → NoDelivery w i
+delivery_none w t i e not = subst (λ (t : ThreadId). happened (event.Deliver t) w ≡ None) (sym (named w.shape t i e)) (none_is (happened (event.Deliver t) w) not)
+
+pub first_turn : (w : WorldView) (t : ThreadId) (i : ℕ) → t.0 ≡ thread_at w.shape i → i < thread_count w.shape → ((k : ℕ) → k < i → NoTurn w k) → is_some (happened (event.Turn t 1) w) ≡ true → First w (turns w.shape) (event.Turn t 1)
+first_turn w t i e h none some = subst (λ (t : ThreadId). First w (turns w.shape) (event.Turn t 1)) (named w.shape t i e)
+    (first_mapped w (λ i. event.Turn (nth_thread w.shape i) 1) 0 (thread_count w.shape) i (omega arith) (omega arith) none
+    (subst (λ (t : ThreadId). IsSome (happened (event.Turn t 1) w)) (sym (named w.shape t i e)) (some_is (happened (event.Turn t 1) w) some)))
+
+pub first_delivery : (w : WorldView) (t : ThreadId) (i : ℕ) → t.0 ≡ thread_at w.shape i → i < thread_count w.shape → ((k : ℕ) → k < i → NoDelivery w k) → is_some (happened (event.Deliver t) w) ≡ true → First w (deliveries w.shape) (event.Deliver t)
+first_delivery w t i e h none some = subst (λ (t : ThreadId). First w (deliveries w.shape) (event.Deliver t)) (named w.shape t i e)
+    (first_mapped w (λ i. event.Deliver (nth_thread w.shape i)) 0 (thread_count w.shape) i (omega arith) (omega arith) none
+    (subst (λ (t : ThreadId). IsSome (happened (event.Deliver t) w)) (sym (named w.shape t i e)) (some_is (happened (event.Deliver t) w) some)))
+
+pub no_turn : (w : WorldView) (n : ℕ) → thread_count w.shape ≤ n → ((k : ℕ) → k < n → NoTurn w k) → NoneOf w (turns w.shape)
+no_turn w n past none = none_mapped_all w (λ i. event.Turn (nth_thread w.shape i) 1) 0 (thread_count w.shape) (λ k low high. none k (omega arith))
+
+pub no_delivery : (w : WorldView) (n : ℕ) → thread_count w.shape ≤ n → ((k : ℕ) → k < n → NoDelivery w k) → NoneOf w (deliveries w.shape)
+no_delivery w n past none = none_mapped_all w (λ i. event.Deliver (nth_thread w.shape i)) 0 (thread_count w.shape) (λ k low high. none k (omega arith))
+
+-- ---- departures and arrivals, by part
+
+abbrev pub NoDeparture : WorldView → PartId → ℕ → Type 0
+NoDeparture w p l = happened (event.Depart p (part_id l)) w ≡ None
+
+abbrev pub NoArrival : WorldView → PartId → ℕ → Type 0
+NoArrival w l p = happened (event.Arrive l (part_id p)) w ≡ None
+
+pub first_departure_from : (w : WorldView) (p : PartId) (l : ℕ) → l < part_count w.shape → ((k : ℕ) → k < l → NoDeparture w p k) → is_some (happened (event.Depart p (part_id l)) w) ≡ true → First w (departures_from w.shape p.0) (event.Depart p (part_id l))
+first_departure_from w p l h none some =
+    let there : leads_from p.0 (kind_of w.shape l) ≡ true = joined (event.Depart p (part_id l)) w (leads_from p.0 (kind_of w.shape l)) p.0 l some in
+    first_flat w (λ l. event_if (leads_from p.0 (kind_of w.shape l)) (event.Depart p (part_id l))) 0 (part_count w.shape) l (event.Depart p (part_id l)) (omega arith) (omega arith)
+    (λ k less. none_if w (leads_from p.0 (kind_of w.shape k)) (event.Depart p (part_id k)) (none k less))
+    (first_if w (leads_from p.0 (kind_of w.shape l)) (event.Depart p (part_id l)) there (some_is (happened (event.Depart p (part_id l)) w) some))
+
+pub no_departure_from : (w : WorldView) (p : PartId) (n : ℕ) → part_count w.shape ≤ n → ((k : ℕ) → k < n → NoDeparture w p k) → NoneOf w (departures_from w.shape p.0)
+no_departure_from w p n past none =
+    none_flat w (λ l. event_if (leads_from p.0 (kind_of w.shape l)) (event.Depart p (part_id l))) 0 (part_count w.shape)
+    (λ k low high. none_if w (leads_from p.0 (kind_of w.shape k)) (event.Depart p (part_id k)) (none k (omega arith)))
+
+pub first_arrival_from : (w : WorldView) (l : PartId) (p : ℕ) → p < part_count w.shape → ((k : ℕ) → k < p → NoArrival w l k) → is_some (happened (event.Arrive l (part_id p)) w) ≡ true → First w (arrivals_from w.shape l.0) (event.Arrive l (part_id p))
+first_arrival_from w l p h none some =
+    let there : leads_to p (kind_of w.shape l.0) ≡ true = joined (event.Arrive l (part_id p)) w (leads_to p (kind_of w.shape l.0)) p l.0 some in
+    first_flat w (λ p. event_if (leads_to p (kind_of w.shape l.0)) (event.Arrive l (part_id p))) 0 (part_count w.shape) p (event.Arrive l (part_id p)) (omega arith) (omega arith)
+    (λ k less. none_if w (leads_to k (kind_of w.shape l.0)) (event.Arrive l (part_id k)) (none k less))
+    (first_if w (leads_to p (kind_of w.shape l.0)) (event.Arrive l (part_id p)) there (some_is (happened (event.Arrive l (part_id p)) w) some))
+
+pub no_arrival_from : (w : WorldView) (l : PartId) (n : ℕ) → part_count w.shape ≤ n → ((k : ℕ) → k < n → NoArrival w l k) → NoneOf w (arrivals_from w.shape l.0)
+no_arrival_from w l n past none =
+    none_flat w (λ p. event_if (leads_to p (kind_of w.shape l.0)) (event.Arrive l (part_id p))) 0 (part_count w.shape)
+    (λ k low high. none_if w (leads_to k (kind_of w.shape l.0)) (event.Arrive l (part_id k)) (none k (omega arith)))
+
+pub first_departure : (w : WorldView) (p : ℕ) (e : Event) → p < part_count w.shape → ((k : ℕ) → k < p → NoneOf w (departures_from w.shape k)) → First w (departures_from w.shape p) e → First w (departures w.shape) e
+first_departure w p e h none first = first_flat w (departures_from w.shape) 0 (part_count w.shape) p e (omega arith) (omega arith) none first
+
+pub no_departure : (w : WorldView) (n : ℕ) → part_count w.shape ≤ n → ((k : ℕ) → k < n → NoneOf w (departures_from w.shape k)) → NoneOf w (departures w.shape)
+no_departure w n past none = none_flat w (departures_from w.shape) 0 (part_count w.shape) (λ k low high. none k (omega arith))
+
+pub first_arrival : (w : WorldView) (l : ℕ) (e : Event) → l < part_count w.shape → ((k : ℕ) → k < l → NoneOf w (arrivals_from w.shape k)) → First w (arrivals_from w.shape l) e → First w (arrivals w.shape) e
+first_arrival w l e h none first = first_flat w (arrivals_from w.shape) 0 (part_count w.shape) l e (omega arith) (omega arith) none first
+
+pub no_arrival : (w : WorldView) (n : ℕ) → part_count w.shape ≤ n → ((k : ℕ) → k < n → NoneOf w (arrivals_from w.shape k)) → NoneOf w (arrivals w.shape)
+no_arrival w n past none = none_flat w (arrivals_from w.shape) 0 (part_count w.shape) (λ k low high. none k (omega arith))
+
+-- ---- all four lists
+
+-- turns and deliveries, and these and departures
+abbrev two_lists : ShapeNumbers → List Event
+two_lists n = turns n ++ deliveries n
+
+abbrev three_lists : ShapeNumbers → List Event
+three_lists n = two_lists n ++ departures n
+
+pub listed_turn : (w : WorldView) (e : Event) → First w (turns w.shape) e → First w (listed w.shape) e
+listed_turn w e f =
+    first_left w (three_lists w.shape) (arrivals w.shape) e
+    (first_left w (two_lists w.shape) (departures w.shape) e
+    (first_left w (turns w.shape) (deliveries w.shape) e f))
+
+pub listed_delivery : (w : WorldView) (e : Event) → NoneOf w (turns w.shape) → First w (deliveries w.shape) e → First w (listed w.shape) e
+listed_delivery w e turned f =
+    first_left w (three_lists w.shape) (arrivals w.shape) e
+    (first_left w (two_lists w.shape) (departures w.shape) e
+    (first_right w (turns w.shape) (deliveries w.shape) e turned f))
+
+pub listed_departure : (w : WorldView) (e : Event) → NoneOf w (turns w.shape) → NoneOf w (deliveries w.shape) → First w (departures w.shape) e → First w (listed w.shape) e
+listed_departure w e turned delivered f =
+    first_left w (three_lists w.shape) (arrivals w.shape) e
+    (first_right w (two_lists w.shape) (departures w.shape) e
+    (none_append w (turns w.shape) (deliveries w.shape) turned delivered) f)
+
+pub listed_arrival : (w : WorldView) (e : Event) → NoneOf w (turns w.shape) → NoneOf w (deliveries w.shape) → NoneOf w (departures w.shape) → First w (arrivals w.shape) e → First w (listed w.shape) e
+listed_arrival w e turned delivered departed f =
+    first_right w (three_lists w.shape) (arrivals w.shape) e
+    (none_append w (two_lists w.shape) (departures w.shape) (none_append w (turns w.shape) (deliveries w.shape) turned delivered) departed) f
+
+-- each thread of the machine stands in the list
+abbrev pub Each : ShapeNumbers → Type 0
+Each n = (a : ℕ) → IsTrue (has_thread n a) → (i : ℕ) × (i < thread_count n) × (thread_at n i ≡ a)
+
+turn_rests : (w : WorldView) (t : ThreadId) (m : ℕ) (b : Bool) → has_thread w.shape t.0 ≡ b → Each w.shape → NoneOf w (turns w.shape) → happened (event.Turn t m) w ≡ None
+turn_rests w t m true is each none =
+    let got = each t.0 is in
+    let same : nth_thread w.shape got.0 ≡ t = named w.shape t got.0 (sym got.2) in
+    no_turns w t m (subst (λ (t : ThreadId). happened (event.Turn t 1) w ≡ None) same (mapped_none w (λ i. event.Turn (nth_thread w.shape i) 1) 0 (thread_count w.shape) got.0 none (omega arith) (omega (arith, got.1))))
+turn_rests w t m false is each none = no_thread w (event.Turn t m) t is
+
+delivery_rests : (w : WorldView) (t : ThreadId) (b : Bool) → has_thread w.shape t.0 ≡ b → Each w.shape → NoneOf w (deliveries w.shape) → happened (event.Deliver t) w ≡ None
+delivery_rests w t true is each none =
+    let got = each t.0 is in
+    let same : nth_thread w.shape got.0 ≡ t = named w.shape t got.0 (sym got.2) in
+    subst (λ (t : ThreadId). happened (event.Deliver t) w ≡ None) same (mapped_none w (λ i. event.Deliver (nth_thread w.shape i)) 0 (thread_count w.shape) got.0 none (omega arith) (omega (arith, got.1)))
+delivery_rests w t false is each none = no_thread w (event.Deliver t) t is
+
+-- two parts of a machine, or one of them past its last part
+within : (n p q : ℕ) → ((p < n) × (q < n)) ⊎ ((n ≤ p) ⊎ (n ≤ q))
+within n p q = elim (cases_order p n) [
+  | inl e ↦ inr (inl (omega arith))
+  | inr less ↦ elim less [
+    | inr up ↦ inr (inl (omega arith))
+    | inl low ↦ elim (cases_order q n) [
+      | inl e ↦ inr (inr (omega arith))
+      | inr less ↦ elim less [ inl high ↦ inl (low, high) | inr up ↦ inr (inr (omega arith)) ]
+    ]
+  ]
+]
+
+there_or : (w : WorldView) (e : Event) (there : Bool) (p q : ℕ) → (there ≡ true → happened_at e w (two_if there p q) ≡ None) → happened_at e w (two_if there p q) ≡ None
+there_or w e true p q h = h refl
+there_or w e false p q h = refl
+
+departure_rests : (w : WorldView) (p l : PartId) → length w.parts ≡ part_count w.shape → NoneOf w (departures w.shape) → happened (event.Depart p l) w ≡ None
+departure_rests w p l count none = elim (within (part_count w.shape) p.0 l.0) [
+  | inl both ↦ there_or w (event.Depart p l) (leads_from p.0 (kind_of w.shape l.0)) p.0 l.0 (if_none w (leads_from p.0 (kind_of w.shape l.0)) (event.Depart p l)
+      (flat_none w (λ k. event_if (leads_from p.0 (kind_of w.shape k)) (event.Depart p (part_id k))) 0 (part_count w.shape) l.0
+      (flat_none w (departures_from w.shape) 0 (part_count w.shape) p.0 none (omega arith) (omega (arith, both.0))) (omega arith) (omega (arith, both.1))))
+  | inr past ↦ elim past [
+    | inl low ↦ low_past (event.Depart p l) w (leads_from p.0 (kind_of w.shape l.0)) p.0 l.0 (omega (arith, low, count))
+    | inr high ↦ high_past (event.Depart p l) w (leads_from p.0 (kind_of w.shape l.0)) p.0 l.0 (omega (arith, high, count))
+  ]
+]
+
+arrival_rests : (w : WorldView) (l p : PartId) → length w.parts ≡ part_count w.shape → NoneOf w (arrivals w.shape) → happened (event.Arrive l p) w ≡ None
+arrival_rests w l p count none = elim (within (part_count w.shape) p.0 l.0) [
+  | inl both ↦ there_or w (event.Arrive l p) (leads_to p.0 (kind_of w.shape l.0)) p.0 l.0 (if_none w (leads_to p.0 (kind_of w.shape l.0)) (event.Arrive l p)
+      (flat_none w (λ k. event_if (leads_to k (kind_of w.shape l.0)) (event.Arrive l (part_id k))) 0 (part_count w.shape) p.0
+      (flat_none w (arrivals_from w.shape) 0 (part_count w.shape) l.0 none (omega arith) (omega (arith, both.1))) (omega arith) (omega (arith, both.0))))
+  | inr past ↦ elim past [
+    | inl low ↦ low_past (event.Arrive l p) w (leads_to p.0 (kind_of w.shape l.0)) p.0 l.0 (omega (arith, low, count))
+    | inr high ↦ high_past (event.Arrive l p) w (leads_to p.0 (kind_of w.shape l.0)) p.0 l.0 (omega (arith, high, count))
+  ]
+]
+
+-- where none of them is enabled, no event is
+pub rests : (w : WorldView) → length w.parts ≡ part_count w.shape → Each w.shape → NoneOf w (turns w.shape) → NoneOf w (deliveries w.shape) → NoneOf w (departures w.shape) → NoneOf w (arrivals w.shape) → Rests w
+rests w count each turns deliveries departures arrivals (event.Turn t n) = turn_rests w t n (has_thread w.shape t.0) refl each turns
+rests w count each turns deliveries departures arrivals (event.Deliver t) = delivery_rests w t (has_thread w.shape t.0) refl each deliveries
+rests w count each turns deliveries departures arrivals (event.Depart p l) = departure_rests w p l count departures
+rests w count each turns deliveries departures arrivals (event.Arrive l p) = arrival_rests w l p count arrivals
+rests w count each turns deliveries departures arrivals (event.Route p) = never (event.Route p) w refl
+rests w count each turns deliveries departures arrivals event.HostPut = never event.HostPut w refl
+rests w count each turns deliveries departures arrivals event.HostTake = never event.HostTake w refl
+rests w count each turns deliveries departures arrivals (event.Report p) = never (event.Report p) w refl
+rests w count each turns deliveries departures arrivals event.Begin = never event.Begin w refl
+rests w count each turns deliveries departures arrivals (event.Confirm p) = never (event.Confirm p) w refl
+rests w count each turns deliveries departures arrivals event.Announce = never event.Announce w refl
+rests w count each turns deliveries departures arrivals (event.Release p) = never (event.Release p) w refl
+rests w count each turns deliveries departures arrivals (event.Go p) = never (event.Go p) w refl
+
+-- what is left after the first three lists
+pub last_list : (w : WorldView) (r : Option Event) → length w.parts ≡ part_count w.shape → Each w.shape → NoneOf w (turns w.shape) → NoneOf w (deliveries w.shape) → NoneOf w (departures w.shape) →
+    MatchOption r (NoneOf w (arrivals w.shape)) (First w (arrivals w.shape)) → MatchOption r (Rests w) (First w (listed w.shape))
+last_list w None count each turned delivered departed h = rests w count each turned delivered departed h
+last_list w (Some e) count each turned delivered departed h = listed_arrival w e turned delivered departed h

@@ -1,5 +1,5 @@
 -- Events by the part that they are on.
-use Rattle.std.proofs.Common.{◌≡◌, ℕ, Bool, None, Some, refl, get_or, set, length, ◌<◌, MatchResult}
+use Rattle.std.proofs.Common.{◌≡◌, ◌∙◌, ℕ, Bool, None, Some, refl, ap, subst, sym, get_or, set, length, ◌<◌, MatchResult, option_and_then, option_map}
 use Rattle.std.specs.declared.option.Option.{Option}
 use Rattle.std.specs.List.{slice_get}
 use Rattle.std.proofs.lemmas.List.{set-get_or}
@@ -9,6 +9,7 @@ use Rattle.tn_base.specs.Does.{Does}
 use Rattle.tn_base.specs.Parts.{kind_of}
 use Rattle.tn_base.specs.declared.event.Event.TheVariants as event
 use Rattle.tn_base.specs.declared.ids.ThreadId.{ThreadId}
+use Rattle.tn_base.specs.declared.shape.ShapeNumbers.{ShapeNumbers}
 use Rattle.std.specs.declared.result.Result.{Result}
 use Rattle.std.specs.declared.result.Result.TheVariants.{Ok, Err}
 use Rattle.std.specs.declared.alloc.AllocError.{AllocError}
@@ -17,7 +18,9 @@ use Rattle.tn_tile.specs.declared.step.Turned.{Turned}
 use Rattle.tn_tile.specs.declared.step.Turned.TheVariants as turned
 use Rattle.tn_tile.specs.Turns.{moved}
 use Rattle.tn_world.specs.Plays.{Turns, TurnsPart}
-use Rattle.tn_rows.specs.Events.{after, happened, part_of, place_of, with_part, FitsKind, IsWorld}
+use Rattle.tn_rows.specs.Events.{after, happened, happened_at, with_part, FitsKind, IsWorld}
+use Rattle.tn_rows.specs.Places.{One, at_part, part_of, places}
+use Rattle.tn_stamp.specs.declared.entry.Crossing.TheVariants as crossing
 use Rattle.tn_rows.specs.PartView.{PartView}
 use Rattle.tn_rows.specs.WorldView.{WorldView}
 use Rattle.tn_world.proofs.Keeping.{kind_stays, world_keeps}
@@ -27,47 +30,52 @@ pub record At (w : WorldView) (p : ℕ) (part : PartView) : Type 0 where
   pub within : p < length w.parts
   pub is : part ≡ get_or w.parts p part
 
-read : (w : WorldView) (p : ℕ) (part : PartView) → At w p part → slice_get w.parts p ≡ Some part
+pub read : (w : WorldView) (p : ℕ) (part : PartView) → At w p part → slice_get w.parts p ≡ Some part
 read w p part a = slice_get_read w.parts (length w.parts) p part refl a.within a.is
 
--- an event by its part
-pub at_part : (w : WorldView) (e : Event) (p : ℕ) (part : PartView) → place_of w.shape e ≡ Some p → At w p part → happened e w ≡ with_part w p (after e part)
-at_part w e p part here a = rw (here, read w p part a) refl
+-- a thread's events by their part
+pub at_place : (w : WorldView) (e : Event) (p : ℕ) (part : PartView) → places w.shape e ≡ One p → At w p part → happened e w ≡ option_map (with_part w p) (after e crossing.None part)
+at_place w e p part here a =
+    ap (λ q. happened_at e w q) here
+    ∙ ap (λ (o : Option PartView). option_map (with_part w p) (option_and_then (after e crossing.None) o)) (read w p part a)
+
+pub one_place : (n : ShapeNumbers) (t : ThreadId) (p : ℕ) → part_of n t ≡ Some p → at_part (part_of n t) ≡ One p
+one_place n t p e = ap at_part e
 
 -- the part that was there, put back
 pub back : (w : WorldView) (p : ℕ) (part : PartView) → At w p part → record w { parts = set w.parts p part } ≡ w
 back w p part a = let s : set w.parts p part ≡ w.parts = rw (← a.is) at (set-get_or w.parts p part) in rw s refl
 
-does_by : (w : WorldView) (p : ℕ) (o : Option PartView) (old new : PartView) (h : Bool) → At w p old → Does h o old new → Does h (with_part w p o) w (record w { parts = set w.parts p new })
+does_by : (w : WorldView) (p : ℕ) (o : Option PartView) (old new : PartView) (h : Bool) → At w p old → Does h o old new → Does h (option_map (with_part w p) o) w (record w { parts = set w.parts p new })
 does_by w p None old new h a d = (d.0, rw d.1 (back w p old a))
 does_by w p (Some v) old new h a d = (d.0, rw d.1 refl)
 
 -- what a call does on a part, it does on the machine
-pub does_world : (w : WorldView) (e : Event) (p : ℕ) (old new : PartView) (h : Bool) → place_of w.shape e ≡ Some p → At w p old → Does h (after e old) old new → Does h (happened e w) w (record w { parts = set w.parts p new })
-does_world w e p old new h here a d = rw (at_part w e p old here a) (does_by w p (after e old) old new h a d)
+pub does_world : (w : WorldView) (e : Event) (p : ℕ) (old new : PartView) (h : Bool) → places w.shape e ≡ One p → At w p old → Does h (after e crossing.None old) old new → Does h (happened e w) w (record w { parts = set w.parts p new })
+does_world w e p old new h here a d = subst (λ o. Does h o w (record w { parts = set w.parts p new })) (sym (at_place w e p old here a)) (does_by w p (after e crossing.None old) old new h a d)
 
-kept_by : (e : Event) (w : WorldView) (p : ℕ) (o : Option PartView) (old new : PartView) (h : Bool) → after e old ≡ o → Does h o old new → FitsKind w.shape (kind_of w.shape p) old → FitsKind w.shape (kind_of w.shape p) new
+kept_by : (e : Event) (w : WorldView) (p : ℕ) (o : Option PartView) (old new : PartView) (h : Bool) → after e crossing.None old ≡ o → Does h o old new → FitsKind w.shape (kind_of w.shape p) old → FitsKind w.shape (kind_of w.shape p) new
 kept_by e w p None old new h is d f = rw d.1 f
-kept_by e w p (Some v) old new h is d f = rw d.1 (kind_stays e w.shape (kind_of w.shape p) old v is f)
+kept_by e w p (Some v) old new h is d f = rw d.1 (kind_stays e crossing.None w.shape (kind_of w.shape p) old v is f)
 
 -- and the machine stays one
-pub does_keeps : (w : WorldView) (e : Event) (p : ℕ) (old new : PartView) (h : Bool) → At w p old → Does h (after e old) old new → IsWorld w → IsWorld (record w { parts = set w.parts p new })
+pub does_keeps : (w : WorldView) (e : Event) (p : ℕ) (old new : PartView) (h : Bool) → At w p old → Does h (after e crossing.None old) old new → IsWorld w → IsWorld (record w { parts = set w.parts p new })
 does_keeps w e p old new h a d i =
-    world_keeps w p old new (read w p old a) (kept_by e w p (after e old) old new h refl d) i
+    world_keeps w p old new (read w p old a) (kept_by e w p (after e crossing.None old) old new h refl d) i
 
 -- the longest turn on a part is the longest one of the machine
 pub turns_world : (w : WorldView) (t : ThreadId) (p : ℕ) (old new : PartView) (r : Turned) → part_of w.shape t ≡ Some p → At w p old → TurnsPart r t old new → Turns r t w (record w { parts = set w.parts p new })
 turns_world w t p old new (turned.Moved n) here a d = (
-  rw (at_part w (event.Turn t n) p old here a, d.0) refl,
-  λ m h. rw (at_part w (event.Turn t m) p old here a, d.1 m h) refl,
+  at_place w (event.Turn t n) p old (one_place w.shape t p here) a ∙ ap (λ o. option_map (with_part w p) o) d.0,
+  λ m h. at_place w (event.Turn t m) p old (one_place w.shape t p here) a ∙ ap (λ o. option_map (with_part w p) o) (d.1 m h),
 )
 turns_world w t p old new turned.Nothing here a d = (
   rw d.0 (back w p old a),
-  λ m. rw (at_part w (event.Turn t m) p old here a, d.1 m) refl,
+  λ m. at_place w (event.Turn t m) p old (one_place w.shape t p here) a ∙ ap (λ o. option_map (with_part w p) o) (d.1 m),
 )
 
 turned_keeps : (w : WorldView) (t : ThreadId) (p : ℕ) (old new : PartView) (r : Turned) → TurnsPart r t old new → FitsKind w.shape (kind_of w.shape p) old → FitsKind w.shape (kind_of w.shape p) new
-turned_keeps w t p old new (turned.Moved n) d f = kind_stays (event.Turn t n) w.shape (kind_of w.shape p) old new d.0 f
+turned_keeps w t p old new (turned.Moved n) d f = kind_stays (event.Turn t n) crossing.None w.shape (kind_of w.shape p) old new d.0 f
 turned_keeps w t p old new turned.Nothing d f = rw d.0 f
 
 pub turns_keeps : (w : WorldView) (t : ThreadId) (p : ℕ) (old new : PartView) (r : Turned) → At w p old → TurnsPart r t old new → IsWorld w → IsWorld (record w { parts = set w.parts p new })
@@ -77,10 +85,10 @@ turns_keeps w t p old new r a d i = world_keeps w p old new (read w p old a) (tu
 abbrev pub DoesOr : {V : Type 0} → Result Did AllocError → Option V → V → V → Type 0
 DoesOr r o old new = MatchResult r (λ did. Does (moved did) o old new) (λ _. new ≡ old)
 
-pub does_or_world : (w : WorldView) (e : Event) (p : ℕ) (old new : PartView) (r : Result Did AllocError) → place_of w.shape e ≡ Some p → At w p old → DoesOr r (after e old) old new → DoesOr r (happened e w) w (record w { parts = set w.parts p new })
+pub does_or_world : (w : WorldView) (e : Event) (p : ℕ) (old new : PartView) (r : Result Did AllocError) → places w.shape e ≡ One p → At w p old → DoesOr r (after e crossing.None old) old new → DoesOr r (happened e w) w (record w { parts = set w.parts p new })
 does_or_world w e p old new (Ok did) here a d = does_world w e p old new (moved did) here a d
 does_or_world w e p old new (Err x) here a d = rw d (back w p old a)
 
-pub does_or_keeps : (w : WorldView) (e : Event) (p : ℕ) (old new : PartView) (r : Result Did AllocError) → At w p old → DoesOr r (after e old) old new → IsWorld w → IsWorld (record w { parts = set w.parts p new })
+pub does_or_keeps : (w : WorldView) (e : Event) (p : ℕ) (old new : PartView) (r : Result Did AllocError) → At w p old → DoesOr r (after e crossing.None old) old new → IsWorld w → IsWorld (record w { parts = set w.parts p new })
 does_or_keeps w e p old new (Ok did) a d i = does_keeps w e p old new (moved did) a d i
 does_or_keeps w e p old new (Err x) a d i = world_keeps w p old new (read w p old a) (λ f. rw d f) i

@@ -3,19 +3,10 @@ use Rattle.std.proofs.Common.{◌≡◌, ℕ, zero, suc, ◌<◌, ◌≤◌, ◌
 use Rattle.std.specs.declared.option.Option.{Option}
 use Rattle.std.proofs.lemmas.Bool.Decides.{nat_tests}
 use Rattle.tn_base.specs.Address.{place_in_tile}
+use Rattle.tn_tile.proofs.Steps.{steps_stop}
 use Rattle.tn_tile.specs.Rows.{can_count, is_here, turn_row}
 use Rattle.tn_tile.specs.Step.{can_step, stepped, steps_of}
 use Rattle.tn_tile.specs.TileView.{TileView}
-use Rattle.tn_world.proofs.Keeping.{taken}
-
--- where fewer steps end and no more can be made, more steps cannot be made
-pub steps_stop : (k made n : ℕ) (v w : TileView) → made < n → steps_of k made v ≡ Some w → can_step k w ≡ false → steps_of k n v ≡ None
-unfolding steps_of
-steps_stop k made zero v w less e stops = absurd (omega arith)
-steps_stop k zero (suc n) v w less e stops = let same : v ≡ w = cc e in rw (rw (← same) at stops) refl
-steps_stop k (suc made) (suc n) v w less e stops =
-    let first = taken (can_step k v) (steps_of k made (stepped k v)) w e in
-    rw first.0 (steps_stop k made n (stepped k v) w (omega arith) first.1 stops)
 
 at_least : (n m : ℕ) → n ≤ m → leb n m ≡ true
 at_least n m h = grind (arith, nat_tests)
@@ -30,7 +21,7 @@ none_both false o e = refl
 
 -- as many steps as can be made are fewer: there is no such turn
 pub no_turn : (a n made : ℕ) (v w : TileView) → steps_of (place_in_tile v.shape a) made v ≡ Some w → made < n → can_step (place_in_tile v.shape a) w ≡ false → turn_row a n v ≡ None
-no_turn a n made v w e less stops = none_both _ _ (steps_stop (place_in_tile v.shape a) made n v w less e stops)
+no_turn a n made v w e less stops = none_both _ _ (steps_stop (place_in_tile v.shape a) made n v w e stops less)
 
 -- all steps are made: there is this turn
 pub turn_done : (a n made : ℕ) (v w : TileView) → is_here a v ≡ true → 1 ≤ n → n ≤ v.shape.turn → can_count v ≡ true → steps_of (place_in_tile v.shape a) made v ≡ Some w → made ≡ n → turn_row a n v ≡ Some w

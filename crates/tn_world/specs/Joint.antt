@@ -17,6 +17,17 @@ IsWay (TileV v) l way = way ≡ link_way v.shape l
 IsWay (LinkV v) l way = Unit {0}
 IsWay AbsentV l way = Unit {0}
 
+-- a part is a link, and a part is none
+abbrev pub IsLink : PartView → Type 0
+IsLink (TileV v) = ⊥
+IsLink (LinkV v) = Unit {0}
+IsLink AbsentV = ⊥
+
+abbrev pub NoLink : PartView → Type 0
+NoLink (TileV v) = Unit {0}
+NoLink (LinkV v) = ⊥
+NoLink AbsentV = Unit {0}
+
 -- the parts with both of an event in their places
 abbrev pub set_both : List PartView → ℕ → ℕ → Met → List PartView
 set_both parts p q m = slice_set (slice_set parts p m.low) q m.high

@@ -40,7 +40,7 @@ pub record Played (limit : ℕ) (start : WorldView) (history : List Event) (end 
   pub few : length history ≤ limit
   pub stops : length history < limit → MatchOption (final_after (last_of history) end) (Rests end) (λ o. Unit {0})
 
--- a machine after some longest turns and deliveries
+-- a machine after some events, each turn the longest
 abbrev pub Reached : WorldView → WorldView → Type 0
 Reached start end = (history : List Event) × LongRun start history end
 

@@ -109,7 +109,9 @@ impl Agenda {
     }
 
     fn ends_at(&self, l: PartId) -> Option<Ends> {
-        self.ends.get(l.0.wrapping_sub(self.first_link) as usize).copied()
+        self.ends
+            .get(l.0.wrapping_sub(self.first_link) as usize)
+            .copied()
     }
 
     fn mark(&mut self, p: usize) {

@@ -6,16 +6,17 @@ ghost use Rattle.tn_base.specs.declared.part.Kind.TheVariants as kind;
 ghost use Rattle.tn_base.specs.Does.{Does};
 ghost use Rattle.tn_base.specs.Parts.{kind_of};
 ghost use Rattle.tn_rows.specs.Events.{happened, meets, meets_at};
-ghost use Rattle.tn_rows.specs.PartView.{LinkV, TileV};
+ghost use Rattle.tn_rows.specs.PartView.{AbsentV, LinkV, TileV};
 ghost use Rattle.tn_rows.specs.Places.{leads_from, leads_to, link_way, way_between};
+ghost use Rattle.tn_tile.specs.Rows.{accept_row, depart_row};
 ghost use Rattle.tn_tile.specs.Turns.{moved};
-ghost use Rattle.tn_world.specs.Joint.{DoesBoth, IsWay, set_both};
+ghost use Rattle.tn_world.specs.Joint.{DoesBoth, IsLink, IsWay, NoLink, set_both};
 
 use crate::part::{Contents, Part};
 use crate::world::World;
 use tn_base::ids::{PartId, ThreadId};
 use tn_base::laws::law_links;
-use tn_base::message::Dest;
+use tn_base::message::{Dest, Packet};
 use tn_base::part::Kind;
 use tn_base::port::Port;
 use tn_link::link::Link;
@@ -34,6 +35,23 @@ fn way_between(a: Kind, b: Kind) -> Port
         (Kind::Router(_), Kind::Host) => Port::HostPort,
         _ => Port::Here,
     }
+}
+
+/// Whether a tile can give a packet to a link that leads away by this way.
+fn can_give(tile: &Tile, way: Port) -> bool
+    ensures { result ≡ is_some (depart_row way tile.now) }
+{
+    tile.counter() < i64::MAX && tile.offer(way).is_some()
+}
+
+/// Whether a tile can take this packet from a link.
+fn can_take(tile: &Tile, packet: &Packet) -> bool
+    ensures { result ≡ is_some (accept_row packet.now tile.now) }
+{
+    if !tile.counts() {
+        return false;
+    }
+    i64::MIN < tile.counter() && tile.accepts(packet)
 }
 
 /// A packet goes from a tile to the link, which leads away by this way.
@@ -61,7 +79,7 @@ fn arrive_tile<L: Link>(tile: &mut Tile, link: &mut L, l: PartId, p: PartId) -> 
     let Some(packet) = link.front() else {
         return Did::Nothing;
     };
-    if !tile.counts() || tile.counter() == i64::MIN || !tile.accepts(packet) {
+    if !can_take(tile, packet) {
         return Did::Nothing;
     }
     let _dead = tile.accept(packet);
@@ -69,10 +87,29 @@ fn arrive_tile<L: Link>(tile: &mut Tile, link: &mut L, l: PartId, p: PartId) -> 
     Did::Moved
 }
 
+/// Whether a packet can go from a tile to the link, which leads away by this way.
+fn can_depart_tile<L: Link>(tile: &Tile, link: &L, p: PartId, l: PartId, way: Port) -> bool
+    requires { way ≡ link_way tile.now.shape l.0 }
+    ensures { result ≡ is_some (meets (event.Depart p l) (TileV tile.now) (LinkV (L.content link.now))) }
+{
+    can_give(tile, way) && link.len() < link.capacity()
+}
+
+/// Whether a link's first packet can go to a tile.
+fn can_arrive_tile<L: Link>(tile: &Tile, link: &L, l: PartId, p: PartId) -> bool
+    ensures { result ≡ is_some (meets (event.Arrive l p) (TileV tile.now) (LinkV (L.content link.now))) }
+{
+    match link.front() {
+        Some(packet) => can_take(tile, packet),
+        None => false,
+    }
+}
+
 impl<L: Link> Part<L> {
     /// A packet goes from this part to a link, which leads away by this way.
     fn depart(&mut self, link: &mut Part<L>, p: PartId, l: PartId, way: Port) -> Did
-        requires { IsWay self.old l.0 way }
+        requires way { IsWay self.old l.0 way }
+        requires link { IsLink link.old }
         ensures { DoesBoth (moved result) (meets (event.Depart p l) self.old link.old) self.old link.old self.new link.new }
     {
         match (&mut self.contents, &mut link.contents) {
@@ -83,6 +120,7 @@ impl<L: Link> Part<L> {
 
     /// A link's first packet goes to this part.
     fn arrive(&mut self, link: &mut Part<L>, l: PartId, p: PartId) -> Did
+        requires { NoLink self.old }
         ensures { DoesBoth (moved result) (meets (event.Arrive l p) self.old link.old) self.old link.old self.new link.new }
     {
         match (&mut self.contents, &mut link.contents) {
@@ -93,30 +131,23 @@ impl<L: Link> Part<L> {
 
     /// Whether a packet can go from this part to a link, which leads away by this way.
     fn can_depart(&self, link: &Part<L>, p: PartId, l: PartId, way: Port) -> bool
-        requires { IsWay self.now l.0 way }
+        requires way { IsWay self.now l.0 way }
+        requires link { IsLink link.now }
         ensures { result ≡ is_some (meets (event.Depart p l) self.now link.now) }
     {
         match (&self.contents, &link.contents) {
-            (Contents::Tile(tile), Contents::Link(link)) => {
-                tile.counter() != i64::MAX
-                    && tile.offer(way).is_some()
-                    && link.len() < link.capacity()
-            }
+            (Contents::Tile(tile), Contents::Link(link)) => can_depart_tile(tile, link, p, l, way),
             _ => false,
         }
     }
 
     /// Whether a link's first packet can go to this part.
     fn can_arrive(&self, link: &Part<L>, l: PartId, p: PartId) -> bool
+        requires { NoLink self.now }
         ensures { result ≡ is_some (meets (event.Arrive l p) self.now link.now) }
     {
         match (&self.contents, &link.contents) {
-            (Contents::Tile(tile), Contents::Link(link)) => match link.front() {
-                Some(packet) => {
-                    tile.counts() && tile.counter() != i64::MIN && tile.accepts(packet)
-                }
-                None => false,
-            },
+            (Contents::Tile(tile), Contents::Link(link)) => can_arrive_tile(tile, link, l, p),
             _ => false,
         }
     }
@@ -196,8 +227,7 @@ impl<L: Link> World<L> {
         ensures { result ≡ is_some (happened (event.Arrive l p) self.now) }
     {
         law_links(&self.shape);
-        self.leads_to(l, p)
-            && self.parts[p.0 as usize].can_arrive(&self.parts[l.0 as usize], l, p)
+        self.leads_to(l, p) && self.parts[p.0 as usize].can_arrive(&self.parts[l.0 as usize], l, p)
     }
 }
 
@@ -206,6 +236,7 @@ fn depart_at<L: Link>(parts: &mut Vec<Part<L>>, p: PartId, l: PartId, way: Port)
     requires low { p.0 < l.0 }
     requires high { l.0 < length parts.old.items }
     requires way { IsWay (slice_index_or parts.old.items p.0 AbsentV) l.0 way }
+    requires link { IsLink (slice_index_or parts.old.items l.0 AbsentV) }
     ensures { Does (moved result) (option_map (set_both parts.old.items p.0 l.0) (meets_at (event.Depart p l) (slice_get parts.old.items p.0) (slice_get parts.old.items l.0))) parts.old.items parts.new.items }
 {
     let (front, back) = parts.split_at_mut(l.0 as usize);
@@ -216,6 +247,7 @@ fn depart_at<L: Link>(parts: &mut Vec<Part<L>>, p: PartId, l: PartId, way: Port)
 fn arrive_at<L: Link>(parts: &mut Vec<Part<L>>, l: PartId, p: PartId) -> Did
     requires low { p.0 < l.0 }
     requires high { l.0 < length parts.old.items }
+    requires part { NoLink (slice_index_or parts.old.items p.0 AbsentV) }
     ensures { Does (moved result) (option_map (set_both parts.old.items p.0 l.0) (meets_at (event.Arrive l p) (slice_get parts.old.items p.0) (slice_get parts.old.items l.0))) parts.old.items parts.new.items }
 {
     let (front, back) = parts.split_at_mut(l.0 as usize);

@@ -1,6 +1,6 @@
 //! A part of a machine.
 
-ghost use Rattle.std.specs.Prelude.{◌≡◌, IfOk, MatchResult, is_some, not, option_copied, option_map};
+ghost use Rattle.std.specs.Prelude.{◌≡◌, ◌↔◌, IfOk, IsTrue, MatchResult, is_some, not, option_copied, option_map};
 ghost use Rattle.tn_base.specs.declared.event.Event.TheVariants as event;
 ghost use Rattle.tn_base.specs.Does.{Does};
 ghost use Rattle.tn_rows.specs.Ends.{ended_on, is_over};
@@ -83,6 +83,18 @@ impl<L: Link> Part<L> {
             Contents::Tile(tile) => Ok(Part::tile(tile.copy()?)),
             Contents::Link(link) => Ok(Part::link(link.copy()?)),
             Contents::Absent => Ok(Part::absent()),
+        }
+    }
+
+    /// Whether two parts are equal, but for the spare room of their lists.
+    pub fn same(&self, other: &Part<L>) -> bool
+        ensures { IsTrue result ↔ (self.now ≡ other.now) }
+    {
+        match (&self.contents, &other.contents) {
+            (Contents::Tile(a), Contents::Tile(b)) => a.same(b),
+            (Contents::Link(a), Contents::Link(b)) => a.same(b),
+            (Contents::Absent, Contents::Absent) => true,
+            _ => false,
         }
     }
 

@@ -1,6 +1,6 @@
 //! Machines.
 
-ghost use Rattle.std.specs.Prelude.{◌≡◌, ◌<◌, IfOk, Some, slice_index_or, vec_len};
+ghost use Rattle.std.specs.Prelude.{◌≡◌, ◌<◌, ◌↔◌, IfOk, IsTrue, Some, slice_index_or, vec_len};
 ghost use Rattle.tn_base.specs.Parts.{part_count};
 ghost use Rattle.tn_rows.specs.Events.{IsWorld};
 ghost use Rattle.tn_rows.specs.PartView.{AbsentV};
@@ -71,6 +71,28 @@ impl<L: Link> World<L> {
             parts,
         })
     }
+
+    /// Whether two machines are equal, but for the spare room of their lists.
+    pub fn same(&self, other: &World<L>) -> bool
+        ensures { IsTrue result ↔ (self.now ≡ other.now) }
+    {
+        self.shape == other.shape && same_parts(&self.parts, &other.parts)
+    }
+}
+
+/// Whether the parts are equal.
+fn same_parts<L: Link>(a: &Vec<Part<L>>, b: &Vec<Part<L>>) -> bool
+    ensures { IsTrue result ↔ (a.now.items ≡ b.now.items) }
+{
+    if a.len() != b.len() {
+        return false;
+    }
+    for i in 0..a.len() {
+        if !a[i].same(&b[i]) {
+            return false;
+        }
+    }
+    true
 }
 
 /// The same parts.

@@ -3,32 +3,32 @@ use Rattle.tn_world.proofs.Calm.{calm_on, on_error, played_final, played_limit, 
 use Rattle.tn_world.proofs.play.play.Goals as goal
 
 pub returns-in_default : goal.returns-in_default
-returns-in_default c =
+returns-in_default g c =
     let i = c.loop-world.invariant in
-    let made = rw c.in_default.is at c.next_move.ensures.made in
+    let made = c.in_default.ensures in
     played_rest c.args.limit c.args.world.now c.loop-world.history.items c.loop-world.world c.next_move.new.world i.0 i.1 made.0 made.1
 
 pub returns-in_err-push : goal.returns-in_err-push
-returns-in_err-push c =
-    let made = rw c.in-Some.is at c.next_move.ensures.made in
-    on_error c.from_residual-in_err-push.result _ _ c.from_residual-in_err-push.ensures.0 (reached c.args.world.now c.loop-world.history.items c.loop-world.world c.next_move.new.world c.in-Some.made.event c.loop-world.invariant.0 made)
+returns-in_err-push g c =
+    let made = c.in-Some.ensures in
+    on_error c.from_residual-in_err-push.result _ _ c.from_residual-in_err-push.ensures.0 (reached c.args.world.now c.loop-world.history.items c.loop-world.world c.next_move.new.world c.in-Some.event c.loop-world.invariant.0 made)
 
 pub returns-then-is_some : goal.returns-then-is_some
-returns-then-is_some c =
+returns-then-is_some g c =
     let i = c.loop-world.invariant in
-    let made = rw c.in-Some.is at c.next_move.ensures.made in
+    let made = c.in-Some.ensures in
     let less : length c.loop-world.history.items < c.args.limit = omega (arith, c.loop-world-test.true, c.len.ensures, c.loop-world.history.ok) in
-    played_final c.args.limit c.args.world.now c.loop-world.history.items c.push.new.self.items c.loop-world.world c.next_move.new.world c.in-Some.made.event i.0 less c.in_ok-push.ensures.items made (rw c.final_of.ensures at (sym c.is_some.ensures ∙ c.if-is_some.true))
+    played_final c.args.limit c.args.world.now c.loop-world.history.items c.push.new.self.items c.loop-world.world c.next_move.new.world c.in-Some.event i.0 less c.in_ok-push.ensures.items made (rw c.final_of.ensures at (sym c.is_some.ensures ∙ c.if-is_some.true))
 
 pub loop-world-preserved : goal.loop-world-preserved
-loop-world-preserved c =
+loop-world-preserved g c =
     let i = c.loop-world.invariant in
-    let made = rw c.in-Some.is at c.next_move.ensures.made in
+    let made = c.in-Some.ensures in
     let less : length c.loop-world.history.items < c.args.limit = omega (arith, c.loop-world-test.true, c.len.ensures, c.loop-world.history.ok) in
-    calm_on c.args.limit c.args.world.now c.loop-world.history.items c.push.new.self.items c.loop-world.world c.next_move.new.world c.in-Some.made.event i.0 less c.in_ok-push.ensures.items made (rw c.final_of.ensures at (sym c.is_some.ensures ∙ c.if-is_some.false))
+    calm_on c.args.limit c.args.world.now c.loop-world.history.items c.push.new.self.items c.loop-world.world c.next_move.new.world c.in-Some.event i.0 less c.in_ok-push.ensures.items made (rw c.final_of.ensures at (sym c.is_some.ensures ∙ c.if-is_some.false))
 
 pub returns : goal.returns
-returns c =
+returns g c =
     let i = c.loop-world.invariant in
     let all : c.args.limit ≤ length c.loop-world.history.items = omega (arith, c.loop-world-test.false, c.len.ensures, c.loop-world.history.ok) in
     played_limit c.args.limit c.args.world.now c.loop-world.history.items c.loop-world.world i.0 i.1 all

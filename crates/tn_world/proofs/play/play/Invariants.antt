@@ -3,7 +3,7 @@ use Rattle.tn_world.proofs.Calm.{Calm}
 use Rattle.tn_world.proofs.play.play.Given as goal
 
 abbrev pub invariant-loop-world : goal.invariant-loop-world
-invariant-loop-world l = Calm l.fn.world l.history.items l.world × (length l.history.items ≤ l.limit)
+invariant-loop-world g l = Calm l.fn.world l.history.items l.world × (length l.history.items ≤ l.limit)
 
 abbrev pub decreases-loop-world : goal.decreases-loop-world
-decreases-loop-world l = l.limit - length l.history.items
+decreases-loop-world g l = l.limit - length l.history.items

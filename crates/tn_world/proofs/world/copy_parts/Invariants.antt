@@ -2,4 +2,4 @@ use Rattle.std.proofs.Common.{◌≡◌, take}
 use Rattle.tn_world.proofs.world.copy_parts.Given as goal
 
 abbrev pub invariant-loop-part : goal.invariant-loop-part
-invariant-loop-part l = l.all.items ≡ take l.part-index l.parts.items
+invariant-loop-part g l = l.all.items ≡ take l.part-index l.parts.items

@@ -4,13 +4,13 @@ use Rattle.tn_world.proofs.Places.{At, turns_keeps, turns_world}
 use Rattle.tn_world.proofs.world.World.turn.Goals as goal
 
 pub invariant_of-self : goal.invariant_of-self
-invariant_of-self c =
+invariant_of-self g c =
     let w : WorldView = record { shape = c.self.inside.shape; parts = c.self.inside.parts.items } in
     let at : At w c.in-Some.p.0 c.index_mut.result.now = record { within = omega (arith, c.if-at-len.false, c.len.ensures, c.self.inside.parts.ok); is = c.index_mut.ensures.value } in
     turns_keeps w c.args.t c.in-Some.p.0 c.index_mut.result.now c.turn.new.self c.turn.result at c.turn.ensures c.self.invariant
 
 pub returns : goal.returns
-returns c =
+returns g c =
     let w : WorldView = record { shape = c.self.inside.shape; parts = c.self.inside.parts.items } in
     let at : At w c.in-Some.p.0 c.index_mut.result.now = record { within = omega (arith, c.if-at-len.false, c.len.ensures, c.self.inside.parts.ok); is = c.index_mut.ensures.value } in
     rw (← c.self.view_is) (turns_world w c.args.t c.in-Some.p.0 c.index_mut.result.now c.turn.new.self c.turn.result (rw (← c.self.view_is) at (sym c.in-Some.ensures)) at c.turn.ensures)

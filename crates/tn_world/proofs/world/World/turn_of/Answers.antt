@@ -1,17 +1,17 @@
 use Rattle.std.proofs.Common.{arith, sym}
 use Rattle.tn_base.specs.declared.event.Event.TheVariants as event
 use Rattle.tn_rows.specs.WorldView.{WorldView}
-use Rattle.tn_world.proofs.Places.{At, does_or_keeps, does_or_world}
+use Rattle.tn_world.proofs.Places.{At, does_or_keeps, does_or_world, one_place}
 use Rattle.tn_world.proofs.world.World.turn_of.Goals as goal
 
 pub invariant_of-self : goal.invariant_of-self
-invariant_of-self c =
+invariant_of-self g c =
     let w : WorldView = record { shape = c.self.inside.shape; parts = c.self.inside.parts.items } in
     let at : At w c.in-Some.p.0 c.index_mut.result.now = record { within = omega (arith, c.if-at-len.false, c.len.ensures, c.self.inside.parts.ok); is = c.index_mut.ensures.value } in
     does_or_keeps w (event.Turn c.args.t c.args.n) c.in-Some.p.0 c.index_mut.result.now c.turn_of.new.self c.turn_of.result at c.turn_of.ensures c.self.invariant
 
 pub returns : goal.returns
-returns c =
+returns g c =
     let w : WorldView = record { shape = c.self.inside.shape; parts = c.self.inside.parts.items } in
     let at : At w c.in-Some.p.0 c.index_mut.result.now = record { within = omega (arith, c.if-at-len.false, c.len.ensures, c.self.inside.parts.ok); is = c.index_mut.ensures.value } in
-    rw (← c.self.view_is) (does_or_world w (event.Turn c.args.t c.args.n) c.in-Some.p.0 c.index_mut.result.now c.turn_of.new.self c.turn_of.result (rw (← c.self.view_is) at (sym c.in-Some.ensures)) at c.turn_of.ensures)
+    rw (← c.self.view_is) (does_or_world w (event.Turn c.args.t c.args.n) c.in-Some.p.0 c.index_mut.result.now c.turn_of.new.self c.turn_of.result (one_place w.shape c.args.t c.in-Some.p.0 (rw (← c.self.view_is) at (sym c.in-Some.ensures))) at c.turn_of.ensures)

@@ -1,0 +1,173 @@
+-- Events on two parts: what their rows give.
+use Rattle.std.proofs.Common.{ℕ, ◌≡◌, ◌==◌, ◌&&◌, Bool, true, false, cond, List, [], ◌∷◌, length, ltb, refl, sym, ap, subst, ◌∙◌, Option, Some, None, is_some, option_map, unwrap_or}
+use Rattle.std.proofs.lemmas.Bool.{eq-eqb}
+use Rattle.tn_base.specs.declared.event.Event.{Event}
+use Rattle.tn_base.specs.declared.event.Event.TheVariants as event
+use Rattle.tn_base.specs.declared.ids.PartId.{PartId}
+use Rattle.tn_base.specs.declared.message.Dest.{Dest}
+use Rattle.tn_base.specs.declared.message.Dest.TheVariants as dest
+use Rattle.tn_base.specs.declared.message.Packet.{Packet}
+use Rattle.tn_link.specs.LinkRows.{first_in, front_of, put_in, rest_in, take_from}
+use Rattle.tn_link.specs.LinkView.{LinkView}
+use Rattle.tn_stamp.specs.declared.entry.Crossing.{Crossing}
+use Rattle.tn_stamp.specs.declared.entry.Crossing.TheVariants as crossing
+use Rattle.tn_tile.specs.Rows.{accept_row, depart_row, departed_with, offered}
+use Rattle.tn_tile.specs.TileView.{TileView}
+use Rattle.tn_rows.specs.Events.{Met, after, crossing_of, meets, met_by, met_with}
+use Rattle.tn_rows.specs.PartView.{PartView, TileV, LinkV, AbsentV}
+use Rattle.tn_rows.specs.Places.{link_way}
+use Rattle.tn_rows.specs.SamePacket.{is_packet, same_bytes, same_dest, same_packet}
+
+-- ---- a packet is the same as itself
+
+same_number : (n : ℕ) → (n == n) ≡ true
+same_number n = eq-eqb n n refl
+
+both : (a b : Bool) → a ≡ true → b ≡ true → (a && b) ≡ true
+both true b e f = f
+both false b e f = e
+
+bytes_itself : (xs : List ℕ) → same_bytes xs xs ≡ true
+unfolding same_bytes
+bytes_itself [] = refl
+bytes_itself (x ∷ xs) = both (x == x) (same_bytes xs xs) (same_number x) (bytes_itself xs)
+
+dest_itself : (d : Dest) → same_dest d d ≡ true
+dest_itself (dest.Thread t) = same_number t.0
+dest_itself dest.Host = refl
+dest_itself (dest.Mask tile mask) = both (tile.0 == tile.0) (mask == mask) (same_number tile.0) (same_number mask)
+dest_itself (dest.Key key) = same_number key
+
+pub packet_itself : (k : Packet) → same_packet k k ≡ true
+packet_itself k =
+    both (k.origin == k.origin && k.number == k.number && same_dest k.dest k.dest) (same_bytes k.bytes k.bytes)
+    (both (k.origin == k.origin && k.number == k.number) (same_dest k.dest k.dest)
+    (both (k.origin == k.origin) (k.number == k.number) (same_number k.origin) (same_number k.number))
+    (dest_itself k.dest)) (bytes_itself k.bytes)
+
+-- the giver's row, where it gives the packet that crosses
+pub gives : {V : Type 0} (o : Option Packet) (k : Packet) (row : Option V) → o ≡ Some k → cond (is_packet k o) row None ≡ row
+gives o k row e = ap (λ (x : Option Packet). cond (is_packet k x) row None) e ∙ ap (λ b. cond b row None) (packet_itself k)
+
+-- ---- rows of both parts
+
+pub none_is : {A : Type 0} (o : Option A) → is_some o ≡ false → o ≡ None
+none_is None e = refl
+none_is (Some x) e = cc e
+
+-- what gives something after a function gave something before it
+pub mapped : {A B : Type 0} (f : A → B) (o : Option A) (y : B) → option_map f o ≡ Some y → (x : A) × (o ≡ Some x) × (f x ≡ y)
+mapped f None y e = cc e
+mapped f (Some x) y e = (x, refl, ap (λ o. unwrap_or o y) e)
+
+pub met_rows : (a b : Option PartView) (m : Met) → met_by a b ≡ Some m → (a ≡ Some m.low) × (b ≡ Some m.high)
+met_rows (Some low) (Some high) m e =
+    let is : record { low = low; high = high } ≡ m = ap (λ (o : Option Met). unwrap_or o m) e in
+    (ap (λ (x : Met). Some x.low) is, ap (λ (x : Met). Some x.high) is)
+met_rows (Some low) None m e = cc e
+met_rows None b m e = cc e
+
+-- an event on two parts is the row of each, with one crossing
+pub record Meeting (e : Event) (low high : PartView) (m : Met) : Type 0 where
+  pub crossing : Crossing
+  pub low_row : after e crossing low ≡ Some m.low
+  pub high_row : after e crossing high ≡ Some m.high
+
+meeting_with : (e : Event) (low high : PartView) (o : Option Crossing) (m : Met) → met_with e low high o ≡ Some m → Meeting e low high m
+meeting_with e low high None m h = cc h
+meeting_with e low high (Some c) m h =
+    let rows = met_rows (after e c low) (after e c high) m h in
+    record { crossing = c; low_row = rows.0; high_row = rows.1 }
+
+pub meeting : (e : Event) (low high : PartView) (m : Met) → meets e low high ≡ Some m → Meeting e low high m
+meeting e low high m h = meeting_with e low high (crossing_of e low high) m h
+
+-- where nothing crosses, nothing happens
+pub no_crossing : (e : Event) (low high : PartView) → crossing_of e low high ≡ None → meets e low high ≡ None
+no_crossing e low high h = ap (met_with e low high) h
+
+pub some_mapped : {X Y : Type 0} (f : X → Y) (o : Option X) → is_some (option_map f o) ≡ is_some o
+some_mapped f None = refl
+some_mapped f (Some x) = refl
+
+some_met : (a b : Option PartView) → is_some (met_by a b) ≡ (is_some a && is_some b)
+some_met (Some a) (Some b) = refl
+some_met (Some a) None = refl
+some_met None b = refl
+
+some_both : (t : Option TileView) (l : Option LinkView) → is_some (met_by (option_map TileV t) (option_map LinkV l)) ≡ (is_some t && is_some l)
+some_both t l =
+    some_met (option_map TileV t) (option_map LinkV l)
+    ∙ ap (λ a. a && is_some (option_map LinkV l)) (some_mapped TileV t)
+    ∙ ap (λ b. is_some t && b) (some_mapped LinkV l)
+
+-- ---- a departure of a tile
+
+pub departs_met : (p l : PartId) (v : TileView) (x : LinkView) (k : Packet) → offered (link_way v.shape l.0) v ≡ Some k →
+    meets (event.Depart p l) (TileV v) (LinkV x) ≡ met_by (option_map TileV (depart_row (link_way v.shape l.0) v)) (option_map LinkV (put_in k x))
+departs_met p l v x k e =
+    ap (λ o. met_with (event.Depart p l) (TileV v) (LinkV x) (option_map crossing.Packet o)) e
+    ∙ ap (λ o. met_by (option_map TileV o) (option_map LinkV (put_in k x))) (gives (offered (link_way v.shape l.0) v) k (depart_row (link_way v.shape l.0) v) e)
+
+-- it happens
+pub departed : (p l : PartId) (v w : TileView) (x y : LinkView) (k : Packet) → offered (link_way v.shape l.0) v ≡ Some k → depart_row (link_way v.shape l.0) v ≡ Some w → put_in k x ≡ Some y →
+    meets (event.Depart p l) (TileV v) (LinkV x) ≡ Some (record { low = TileV w; high = LinkV y })
+departed p l v w x y k e row put =
+    departs_met p l v x k e
+    ∙ ap (λ o. met_by (option_map TileV o) (option_map LinkV (put_in k x))) row
+    ∙ ap (λ o. met_by (Some (TileV w)) (option_map LinkV o)) put
+
+if_some : {X : Type 0} (b : Bool) (x : X) → is_some (cond b (Some x) None) ≡ b
+if_some true x = refl
+if_some false x = refl
+
+can_depart_by : (p l : PartId) (v : TileView) (x : LinkView) (o : Option Packet) → offered (link_way v.shape l.0) v ≡ o →
+    is_some (meets (event.Depart p l) (TileV v) (LinkV x)) ≡ (is_some (depart_row (link_way v.shape l.0) v) && ltb (length x.packets) x.capacity)
+can_depart_by p l v x None e =
+    let low : is_some (meets (event.Depart p l) (TileV v) (LinkV x)) ≡ false = ap (λ (o : Option Packet). is_some (met_with (event.Depart p l) (TileV v) (LinkV x) (option_map crossing.Packet o))) e in
+    let row : (is_some (depart_row (link_way v.shape l.0) v) && ltb (length x.packets) x.capacity) ≡ false = ap (λ (o : Option Packet). is_some (departed_with o (link_way v.shape l.0) v) && ltb (length x.packets) x.capacity) e in
+    low ∙ sym row
+can_depart_by p l v x (Some k) e =
+    ap (λ (m : Option Met). is_some m) (departs_met p l v x k e)
+    ∙ some_both (depart_row (link_way v.shape l.0) v) (put_in k x)
+    ∙ ap (λ b. is_some (depart_row (link_way v.shape l.0) v) && b) (if_some (ltb (length x.packets) x.capacity) _)
+
+-- and it can, where the tile can give its packet and the link has room
+pub can_depart : (p l : PartId) (v : TileView) (x : LinkView) →
+    is_some (meets (event.Depart p l) (TileV v) (LinkV x)) ≡ (is_some (depart_row (link_way v.shape l.0) v) && ltb (length x.packets) x.capacity)
+can_depart p l v x = can_depart_by p l v x (offered (link_way v.shape l.0) v) refl
+
+-- ---- an arrival at a tile
+
+pub arrives_met : (l p : PartId) (v : TileView) (x : LinkView) (k : Packet) → front_of x ≡ Some k →
+    meets (event.Arrive l p) (TileV v) (LinkV x) ≡ met_by (option_map TileV (accept_row k v)) (option_map LinkV (take_from x))
+arrives_met l p v x k e =
+    ap (λ o. met_with (event.Arrive l p) (TileV v) (LinkV x) (option_map crossing.Packet o)) e
+    ∙ ap (λ o. met_by (option_map TileV (accept_row k v)) (option_map LinkV o)) (gives (front_of x) k (take_from x) e)
+
+pub arrived_met : (l p : PartId) (v w : TileView) (x y : LinkView) (k : Packet) → front_of x ≡ Some k → accept_row k v ≡ Some w → take_from x ≡ Some y →
+    meets (event.Arrive l p) (TileV v) (LinkV x) ≡ Some (record { low = TileV w; high = LinkV y })
+arrived_met l p v w x y k e row taken =
+    arrives_met l p v x k e
+    ∙ ap (λ o. met_by (option_map TileV o) (option_map LinkV (take_from x))) row
+    ∙ ap (λ o. met_by (Some (TileV w)) (option_map LinkV o)) taken
+
+rest_some : (ps : List Packet) (k : Packet) (capacity : ℕ) → first_in ps ≡ Some k → is_some (rest_in capacity ps) ≡ true
+rest_some [] k capacity e = cc e
+rest_some (p ∷ ps) k capacity e = refl
+
+and_true : (b : Bool) → (b && true) ≡ b
+and_true true = refl
+and_true false = refl
+
+-- it can, where the tile takes the link's first packet
+pub can_arrive : (l p : PartId) (v : TileView) (x : LinkView) (k : Packet) → front_of x ≡ Some k →
+    is_some (meets (event.Arrive l p) (TileV v) (LinkV x)) ≡ is_some (accept_row k v)
+can_arrive l p v x k e =
+    ap (λ (m : Option Met). is_some m) (arrives_met l p v x k e)
+    ∙ some_both (accept_row k v) (take_from x)
+    ∙ ap (λ b. is_some (accept_row k v) && b) (rest_some x.packets k x.capacity e)
+    ∙ and_true (is_some (accept_row k v))
+
+pub cannot_arrive : (l p : PartId) (v : TileView) (x : LinkView) (k : Packet) → front_of x ≡ Some k → is_some (accept_row k v) ≡ false → meets (event.Arrive l p) (TileV v) (LinkV x) ≡ None
+cannot_arrive l p v x k e not = none_is (meets (event.Arrive l p) (TileV v) (LinkV x)) (can_arrive l p v x k e ∙ not)

@@ -1,0 +1,170 @@
+-- Events that are never enabled: those whose parts are not there, and those for which parts have no row yet.
+use Rattle.std.proofs.Common.{◌≡◌, ◌∙◌, ◌&&◌, ℕ, ◌-◌, ◌≤◌, ltb, Bool, true, false, not, cond, None, Some, refl, ap, sym, is_none, is_some, option_and_then, option_map, slice_get, length}
+use Rattle.std.specs.declared.option.Option.{Option}
+use Rattle.std.proofs.lemmas.Bool.{and_parts}
+use Rattle.std.proofs.lemmas.Option.{slice_get_past}
+use Rattle.tn_base.specs.declared.event.Event.{Event}
+use Rattle.tn_base.specs.declared.event.Event.TheVariants as event
+use Rattle.tn_base.specs.declared.ids.PartId.{PartId}
+use Rattle.tn_base.specs.declared.message.Packet.{Packet}
+use Rattle.tn_base.specs.declared.port.Port.{Port}
+use Rattle.tn_base.specs.declared.port.Port.TheVariants as port
+use Rattle.tn_base.specs.Parts.{kind_of, part_count, visited}
+use Rattle.tn_rows.proofs.Meeting.{no_crossing, none_is}
+use Rattle.tn_rows.specs.Events.{after, carried, crossing_of, given_to, happened, happened_at, meets_at, with_both, with_part}
+use Rattle.tn_rows.specs.PartView.{PartView, TileV, LinkV, AbsentV}
+use Rattle.tn_rows.specs.Places.{detector_part, is_router, leads_from, leads_to, link_way, one_if, two_if}
+use Rattle.tn_rows.specs.WorldView.{WorldView}
+use Rattle.tn_stamp.specs.declared.entry.Crossing.TheVariants as crossing
+use Rattle.tn_tile.specs.Rows.{buffer_at}
+use Rattle.tn_tile.specs.Still.{none_waits}
+use Rattle.tn_tile.specs.declared.buffers.Buffers.{Buffers}
+use Rattle.tn_world.specs.Plays.{offers}
+
+-- an event that no part has a row for
+no_row : (e : Event) (w : WorldView) (o : Option PartView) (p : ℕ) → ((x : PartView) → after e crossing.None x ≡ None) → option_map (with_part w p) (option_and_then (after e crossing.None) o) ≡ None
+no_row e w None p none = refl
+no_row e w (Some x) p none = ap (λ o. option_map (with_part w p) o) (none x)
+
+no_one : (e : Event) (w : WorldView) (there : Bool) (p : ℕ) → ((x : PartView) → after e crossing.None x ≡ None) → happened_at e w (one_if there p) ≡ None
+no_one e w true p none = no_row e w (slice_get w.parts p) p none
+no_one e w false p none = refl
+
+-- an event in which nothing crosses
+met_none : (e : Event) (w : WorldView) (a b : Option PartView) (p q : ℕ) → ((x y : PartView) → a ≡ Some x → b ≡ Some y → crossing_of e x y ≡ None) → option_map (with_both w p q) (meets_at e a b) ≡ None
+met_none e w None b p q none = refl
+met_none e w (Some x) None p q none = refl
+met_none e w (Some x) (Some y) p q none = ap (λ o. option_map (with_both w p q) o) (no_crossing e x y (none x y refl refl))
+
+pub no_two : (e : Event) (w : WorldView) (there : Bool) (p q : ℕ) → ((x y : PartView) → slice_get w.parts p ≡ Some x → slice_get w.parts q ≡ Some y → crossing_of e x y ≡ None) → happened_at e w (two_if there p q) ≡ None
+no_two e w true p q none = met_none e w (slice_get w.parts p) (slice_get w.parts q) p q none
+no_two e w false p q none = refl
+
+route_row : (p : PartId) (x : PartView) → after (event.Route p) crossing.None x ≡ None
+route_row p (TileV v) = refl
+route_row p (LinkV v) = refl
+route_row p AbsentV = refl
+
+begin_row : (x : PartView) → after event.Begin crossing.None x ≡ None
+begin_row (TileV v) = refl
+begin_row (LinkV v) = refl
+begin_row AbsentV = refl
+
+announce_row : (x : PartView) → after event.Announce crossing.None x ≡ None
+announce_row (TileV v) = refl
+announce_row (LinkV v) = refl
+announce_row AbsentV = refl
+
+-- whether parts have rows for an event
+abbrev pub has_rows : Event → Bool
+has_rows (event.Turn t n) = true
+has_rows (event.Deliver t) = true
+has_rows (event.Depart p l) = true
+has_rows (event.Arrive l p) = true
+has_rows _ = false
+
+pub never : (e : Event) (w : WorldView) → has_rows e ≡ false → happened e w ≡ None
+never (event.Turn t n) w h = cc h
+never (event.Deliver t) w h = cc h
+never (event.Depart p l) w h = cc h
+never (event.Arrive l p) w h = cc h
+never (event.Route p) w h = no_one (event.Route p) w (is_router (kind_of w.shape p.0)) p.0 (route_row p)
+never event.HostPut w h = no_two event.HostPut w true 0 (part_count w.shape - 2) (λ x y a b. refl)
+never event.HostTake w h = no_two event.HostTake w true 0 (part_count w.shape - 3) (λ x y a b. refl)
+never (event.Report p) w h = no_two (event.Report p) w (ltb p.0 (visited w.shape)) p.0 (detector_part w.shape) (λ x y a b. refl)
+never event.Begin w h = no_one event.Begin w true (detector_part w.shape) begin_row
+never (event.Confirm p) w h = no_two (event.Confirm p) w (ltb p.0 (visited w.shape)) p.0 (detector_part w.shape) (λ x y a b. refl)
+never event.Announce w h = no_one event.Announce w true (detector_part w.shape) announce_row
+never (event.Release p) w h = no_two (event.Release p) w (ltb p.0 (visited w.shape)) p.0 (detector_part w.shape) (λ x y a b. refl)
+never (event.Go p) w h = no_two (event.Go p) w (ltb p.0 (visited w.shape)) p.0 (detector_part w.shape) (λ x y a b. refl)
+
+-- ---- parts past the last one
+
+past_low : (e : Event) (w : WorldView) (p q : ℕ) → slice_get w.parts p ≡ None → option_map (with_both w p q) (meets_at e (slice_get w.parts p) (slice_get w.parts q)) ≡ None
+past_low e w p q a = ap (λ o. option_map (with_both w p q) (meets_at e o (slice_get w.parts q))) a
+
+high_none : (e : Event) (a : Option PartView) → meets_at e a None ≡ None
+high_none e None = refl
+high_none e (Some x) = refl
+
+past_high : (e : Event) (w : WorldView) (p q : ℕ) → slice_get w.parts q ≡ None → option_map (with_both w p q) (meets_at e (slice_get w.parts p) (slice_get w.parts q)) ≡ None
+past_high e w p q b =
+    ap (λ o. option_map (with_both w p q) (meets_at e (slice_get w.parts p) o)) b
+    ∙ ap (λ o. option_map (with_both w p q) o) (high_none e (slice_get w.parts p))
+
+pub low_past : (e : Event) (w : WorldView) (there : Bool) (p q : ℕ) → length w.parts ≤ p → happened_at e w (two_if there p q) ≡ None
+low_past e w true p q h = past_low e w p q (slice_get_past w.parts p h)
+low_past e w false p q h = refl
+
+pub high_past : (e : Event) (w : WorldView) (there : Bool) (p q : ℕ) → length w.parts ≤ q → happened_at e w (two_if there p q) ≡ None
+high_past e w true p q h = past_high e w p q (slice_get_past w.parts q h)
+high_past e w false p q h = refl
+
+-- ---- parts that give nothing
+
+none_here : {A : Type 0} (o : Option A) → is_none o ≡ true → o ≡ None
+none_here None e = refl
+none_here (Some x) e = cc e
+
+-- no buffer is taken
+record Empty (b : Buffers) : Type 0 where
+  pub east : b.east ≡ None
+  pub west : b.west ≡ None
+  pub south : b.south ≡ None
+  pub north : b.north ≡ None
+  pub up : b.up ≡ None
+
+empty : (b : Buffers) → none_waits b ≡ true → Empty b
+empty b e =
+    let last = and_parts (is_none b.east && is_none b.west && is_none b.south && is_none b.north) (is_none b.up) e in
+    let fourth = and_parts (is_none b.east && is_none b.west && is_none b.south) (is_none b.north) last.0 in
+    let third = and_parts (is_none b.east && is_none b.west) (is_none b.south) fourth.0 in
+    let second = and_parts (is_none b.east) (is_none b.west) third.0 in
+    record {
+      east = none_here b.east second.0;
+      west = none_here b.west second.1;
+      south = none_here b.south third.1;
+      north = none_here b.north fourth.1;
+      up = none_here b.up last.1;
+    }
+
+empty_at : (way : Port) (b : Buffers) → Empty b → buffer_at way b ≡ None
+empty_at port.East b e = e.east
+empty_at port.West b e = e.west
+empty_at port.South b e = e.south
+empty_at port.North b e = e.north
+empty_at port.Up b e = e.up
+empty_at port.Down b e = refl
+empty_at port.HostPort b e = refl
+empty_at port.Here b e = refl
+
+unless_held : (held : Bool) (o : Option Packet) → o ≡ None → cond held None o ≡ None
+unless_held true o e = refl
+unless_held false o e = e
+
+not_false : (b : Bool) → not b ≡ false → b ≡ true
+not_false true e = refl
+not_false false e = cc e
+
+gives_none : (l : ℕ) (x : PartView) → offers x ≡ false → given_to l x ≡ None
+gives_none l (TileV v) e = unless_held v.held (buffer_at (link_way v.shape l) v.transit) (empty_at (link_way v.shape l) v.transit (empty v.transit (not_false (none_waits v.transit) e)))
+gives_none l (LinkV v) e = refl
+gives_none l AbsentV e = refl
+
+same_part : (o : Option PartView) (x y : PartView) → o ≡ Some x → o ≡ Some y → x ≡ y
+same_part o x y a b = let e : Some x ≡ Some y = sym a ∙ b in cc e
+
+-- no packet leaves a part on which none waits
+pub none_departs : (w : WorldView) (p l : PartId) (x : PartView) → slice_get w.parts p.0 ≡ Some x → offers x ≡ false → happened (event.Depart p l) w ≡ None
+none_departs w p l x here e = no_two (event.Depart p l) w (leads_from p.0 (kind_of w.shape l.0)) p.0 l.0
+    (λ low high a b. ap (λ o. option_map crossing.Packet o) (ap (given_to l.0) (same_part (slice_get w.parts p.0) low x a here) ∙ gives_none l.0 x e))
+
+-- and none arrives from a link that has none
+pub none_arrives : (w : WorldView) (l p : PartId) (x : PartView) → slice_get w.parts l.0 ≡ Some x → is_some (carried x) ≡ false → happened (event.Arrive l p) w ≡ None
+none_arrives w l p x here e = no_two (event.Arrive l p) w (leads_to p.0 (kind_of w.shape l.0)) p.0 l.0
+    (λ low high a b. ap (λ o. option_map crossing.Packet o) (ap carried (same_part (slice_get w.parts l.0) high x b here) ∙ none_is (carried x) e))
+
+-- an event that is enabled is on parts that are joined so
+pub joined : (e : Event) (w : WorldView) (there : Bool) (p q : ℕ) → is_some (happened_at e w (two_if there p q)) ≡ true → there ≡ true
+joined e w true p q h = refl
+joined e w false p q h = cc h

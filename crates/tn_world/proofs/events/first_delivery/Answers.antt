@@ -1,0 +1,24 @@
+use Rattle.std.proofs.Common.{◌≡◌, ◌∙◌, ◌<◌, ◌≤◌, ap, subst, sym}
+use Rattle.tn_base.specs.declared.shape.ShapeNumbers.{ShapeNumbers}
+use Rattle.tn_base.specs.Address.{thread_at}
+use Rattle.tn_base.specs.Shape.{thread_count}
+use Rattle.tn_rows.specs.WorldView.{WorldView}
+use Rattle.tn_world.proofs.Listed.{NoDelivery, delivery_none, first_delivery, more, no_delivery}
+use Rattle.tn_world.proofs.events.first_delivery.Goals as goal
+
+pub returns-then-can_deliver : goal.returns-then-can_deliver
+returns-then-can_deliver g c =
+    let same = ap (λ (w : WorldView). w.shape) c.world.view_is in
+    let less : c.loop-i.i < thread_count c.args.world.now.shape = subst (λ (n : ShapeNumbers). c.loop-i.i < thread_count n) same (subst (λ m. c.loop-i.i < m) c.thread_count-i-end.ensures.value c.loop-i-test.true) in
+    first_delivery c.args.world.now c.thread_at-t.result c.loop-i.i (subst (λ (n : ShapeNumbers). c.thread_at-t.result.0 ≡ thread_at n c.loop-i.i) same c.thread_at-t.ensures) less c.loop-i.invariant (sym c.can_deliver.ensures ∙ c.if-can_deliver.true)
+
+pub loop-i-preserved : goal.loop-i-preserved
+loop-i-preserved g c =
+    let same = ap (λ (w : WorldView). w.shape) c.world.view_is in
+    more (NoDelivery c.args.world.now) c.loop-i.i c.loop-i.invariant (delivery_none c.args.world.now c.thread_at-t.result c.loop-i.i (subst (λ (n : ShapeNumbers). c.thread_at-t.result.0 ≡ thread_at n c.loop-i.i) same c.thread_at-t.ensures) (sym c.can_deliver.ensures ∙ c.if-can_deliver.false))
+
+pub returns : goal.returns
+returns g c =
+    let same = ap (λ (w : WorldView). w.shape) c.world.view_is in
+    let past : thread_count c.args.world.now.shape ≤ c.loop-i.i = subst (λ (n : ShapeNumbers). thread_count n ≤ c.loop-i.i) same (subst (λ m. m ≤ c.loop-i.i) c.thread_count-i-end.ensures.value c.loop-i-test.false) in
+    no_delivery c.args.world.now c.loop-i.i past c.loop-i.invariant
