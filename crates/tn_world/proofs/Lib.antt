@@ -1,7 +1,9 @@
 pub mod Calm
+pub mod Crossings
 pub mod Keeping
 pub mod Listed
 pub mod Others
 pub mod Pairs
 pub mod Places
 pub mod Steps
+pub mod Ways

@@ -3,7 +3,7 @@ use Rattle.tn_rows.proofs.Meeting.{cannot_arrive}
 use Rattle.tn_rows.specs.Events.{meets}
 use Rattle.tn_rows.specs.PartView.{LinkV, TileV}
 use Rattle.tn_base.specs.declared.event.Event.TheVariants as event
-use Rattle.tn_world.proofs.Pairs.{arrived_tile, did_nothing}
+use Rattle.tn_world.proofs.Crossings.{arrived_tile, did_nothing}
 use Rattle.tn_world.proofs.links.arrive_tile.Goals as goal
 
 pub returns-then-not-can_take : goal.returns-then-not-can_take

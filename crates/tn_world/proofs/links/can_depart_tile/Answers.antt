@@ -1,5 +1,5 @@
 use Rattle.std.proofs.Common.{◌∙◌}
-use Rattle.tn_world.proofs.Pairs.{departs_if, departs_not}
+use Rattle.tn_world.proofs.Crossings.{departs_if, departs_not}
 use Rattle.tn_world.proofs.links.can_depart_tile.Goals as goal
 
 pub returns-then-can_give : goal.returns-then-can_give

@@ -1,7 +1,7 @@
 use Rattle.std.specs.Int.{w64}
 use Rattle.std.specs.Int.RustNames.{FitsSigned}
 use Rattle.std.proofs.Common.{◌∙◌, rules, sym}
-use Rattle.tn_world.proofs.Pairs.{takes}
+use Rattle.tn_world.proofs.Crossings.{takes}
 use Rattle.tn_world.proofs.links.can_take.Goals as goal
 
 pub returns-then-counter-gtminus9223372036854775808 : goal.returns-then-counter-gtminus9223372036854775808

@@ -1,5 +1,5 @@
 use Rattle.std.proofs.Common.{◌∙◌, sym, is_ok}
-use Rattle.tn_world.proofs.Pairs.{departed_tile, ok_if}
+use Rattle.tn_world.proofs.Crossings.{departed_tile, ok_if}
 use Rattle.tn_world.proofs.links.depart_tile.Goals as goal
 
 pub returns : goal.returns

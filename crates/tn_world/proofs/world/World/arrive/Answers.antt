@@ -6,7 +6,8 @@ use Rattle.tn_rows.specs.Events.{happened}
 use Rattle.tn_rows.specs.Places.{leads_to}
 use Rattle.tn_rows.specs.WorldView.{WorldView}
 use Rattle.tn_tile.specs.Turns.{moved}
-use Rattle.tn_world.proofs.Pairs.{LeadsTo, both_keeps, both_world, leads_onto}
+use Rattle.tn_world.proofs.Pairs.{both_keeps, both_world}
+use Rattle.tn_world.proofs.Ways.{LeadsTo, leads_onto}
 use Rattle.tn_world.proofs.world.World.arrive.Goals as goal
 
 pub arrive_at-requires : goal.arrive_at-requires

@@ -5,7 +5,8 @@ use Rattle.tn_rows.specs.Events.{happened}
 use Rattle.tn_rows.specs.Places.{leads_to}
 use Rattle.tn_rows.specs.WorldView.{WorldView}
 use Rattle.tn_world.specs.Joint.{NoLink}
-use Rattle.tn_world.proofs.Pairs.{LeadsTo, can_both, leads_onto, seen}
+use Rattle.tn_world.proofs.Pairs.{can_both, seen}
+use Rattle.tn_world.proofs.Ways.{LeadsTo, leads_onto}
 use Rattle.tn_world.proofs.Places.{At, read}
 use Rattle.tn_world.proofs.world.World.can_arrive.Goals as goal
 

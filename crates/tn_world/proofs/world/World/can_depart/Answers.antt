@@ -6,7 +6,8 @@ use Rattle.tn_rows.specs.Events.{happened}
 use Rattle.tn_rows.specs.Places.{leads_from}
 use Rattle.tn_rows.specs.WorldView.{WorldView}
 use Rattle.tn_world.specs.Joint.{IsLink, IsWay}
-use Rattle.tn_world.proofs.Pairs.{Leads, can_both, leads, seen}
+use Rattle.tn_world.proofs.Pairs.{can_both, seen}
+use Rattle.tn_world.proofs.Ways.{Leads, leads}
 use Rattle.tn_world.proofs.Places.{At, read}
 use Rattle.tn_world.proofs.world.World.can_depart.Goals as goal
 

@@ -6,7 +6,8 @@ use Rattle.tn_rows.specs.Events.{happened}
 use Rattle.tn_rows.specs.Places.{leads_from}
 use Rattle.tn_rows.specs.WorldView.{WorldView}
 use Rattle.tn_tile.specs.Turns.{moved}
-use Rattle.tn_world.proofs.Pairs.{Leads, both_keeps, both_world, leads}
+use Rattle.tn_world.proofs.Pairs.{both_keeps, both_world}
+use Rattle.tn_world.proofs.Ways.{Leads, leads}
 use Rattle.tn_world.proofs.world.World.depart.Goals as goal
 
 pub depart_at-requires : goal.depart_at-requires

@@ -1,0 +1,72 @@
+-- What calls on a tile and a link leave.
+use Rattle.std.proofs.Common.{◌≡◌, ◌∙◌, ℕ, Bool, true, false, None, Some, refl, ap, subst, sym, length, is_some, is_ok, is_err, ltb, ◌&&◌, ◌^◌}
+use Rattle.std.specs.Int.{w64}
+use Rattle.std.specs.Int.RustNames.{FitsSigned}
+use Rattle.std.specs.Prelude.{ℤ, int_lt, neg_ℤ, pos}
+use Rattle.std.proofs.lemmas.Int.{to_z-of_z}
+use mir.Val.{of_z, to_z}
+use Rattle.std.specs.declared.option.Option.{Option}
+use Rattle.std.specs.declared.result.Result.{Result}
+use Rattle.std.specs.declared.result.Result.TheVariants.{Ok, Err}
+use Rattle.tn_base.specs.declared.event.Event.TheVariants as event
+use Rattle.tn_base.specs.declared.ids.PartId.{PartId}
+use Rattle.tn_base.specs.declared.port.Port.{Port}
+use Rattle.tn_base.specs.Does.{Does}
+use Rattle.tn_base.specs.declared.message.Packet.{Packet}
+use Rattle.tn_link.specs.LinkRows.{front_of, put_in, take_from}
+use Rattle.tn_link.specs.LinkView.{LinkView}
+use Rattle.tn_rows.proofs.Meeting.{arrived_met, can_depart, departed, some_mapped}
+use Rattle.tn_tile.specs.Rows.{accept_row, accepted, arrived, can_count, depart_row, offered}
+use Rattle.tn_tile.specs.TileView.{TileView}
+use Rattle.tn_rows.specs.Events.{Met, meets}
+use Rattle.tn_rows.specs.PartView.{PartView, TileV, LinkV}
+use Rattle.tn_rows.specs.Places.{link_way}
+use Rattle.tn_world.specs.Joint.{DoesBoth}
+
+pub did_both : (row : Option Met) (low high low' high' : PartView) → row ≡ Some (record { low = low'; high = high' }) → DoesBoth true row low high low' high'
+did_both row low high low' high' e = subst (λ o. DoesBoth true o low high low' high') (sym e) (refl, refl, refl)
+
+pub did_nothing : (row : Option Met) (low high low' high' : PartView) → row ≡ None → low' ≡ low → high' ≡ high → DoesBoth false row low high low' high'
+did_nothing row low high low' high' e a b = subst (λ o. DoesBoth false o low high low' high') (sym e) (refl, a, b)
+
+pub does_some : {V : Type 0} (h : Bool) (row : Option V) (old new : V) → h ≡ true → Does h row old new → row ≡ Some new
+does_some h None old new t d = let e : true ≡ false = sym t ∙ d.0 in cc e
+does_some h (Some v) old new t d = ap (λ x. Some x) (sym d.1)
+
+pub ok_if : {A B : Type 0} (r : Result A B) → is_err r ≡ false → is_ok r ≡ true
+ok_if (Ok x) e = refl
+ok_if (Err x) e = cc e
+
+-- a departure
+pub departed_tile : (p l : PartId) (way : Port) (v w : TileView) (x y : LinkView) (k : Packet) (ok : Bool) → way ≡ link_way v.shape l.0 → Some k ≡ offered way v → ok ≡ true → Does ok (put_in k x) x y → depart_row way v ≡ Some w →
+    DoesBoth true (meets (event.Depart p l) (TileV v) (LinkV x)) (TileV v) (LinkV x) (TileV w) (LinkV y)
+departed_tile p l way v w x y k ok is offer put does row =
+    did_both (meets (event.Depart p l) (TileV v) (LinkV x)) (TileV v) (LinkV x) (TileV w) (LinkV y)
+    (departed p l v w x y k (sym (subst (λ way. Some k ≡ offered way v) is offer)) (subst (λ way. depart_row way v ≡ Some w) is row) (does_some ok (put_in k x) x y put does))
+
+pub departs_if : (p l : PartId) (way : Port) (v : TileView) (x : LinkView) (gives : Bool) (len most : ℕ) → way ≡ link_way v.shape l.0 → gives ≡ is_some (depart_row way v) → gives ≡ true → len ≡ length x.packets → most ≡ x.capacity →
+    ltb len most ≡ is_some (meets (event.Depart p l) (TileV v) (LinkV x))
+departs_if p l way v x gives len most is row yes_gives long room =
+    let some : is_some (depart_row (link_way v.shape l.0) v) ≡ true = subst (λ way. is_some (depart_row way v) ≡ true) is (sym row ∙ yes_gives) in
+    ap (λ n. ltb n most) long ∙ ap (λ n. ltb (length x.packets) n) room
+    ∙ sym (can_depart p l v x ∙ ap (λ b. b && ltb (length x.packets) x.capacity) some)
+
+pub departs_not : (p l : PartId) (way : Port) (v : TileView) (x : LinkView) (gives : Bool) → way ≡ link_way v.shape l.0 → gives ≡ is_some (depart_row way v) → gives ≡ false →
+    false ≡ is_some (meets (event.Depart p l) (TileV v) (LinkV x))
+departs_not p l way v x gives is row not_gives =
+    let some : is_some (depart_row (link_way v.shape l.0) v) ≡ false = subst (λ way. is_some (depart_row way v) ≡ false) is (sym row ∙ not_gives) in
+    sym (can_depart p l v x ∙ ap (λ b. b && ltb (length x.packets) x.capacity) some)
+
+-- an arrival
+pub arrived_tile : (l p : PartId) (v w : TileView) (x y : LinkView) (k : Packet) (got : Option Packet) → Some k ≡ front_of x → accept_row k v ≡ Some w → got ≡ front_of x → Does (is_some got) (take_from x) x y →
+    DoesBoth true (meets (event.Arrive l p) (TileV v) (LinkV x)) (TileV v) (LinkV x) (TileV w) (LinkV y)
+arrived_tile l p v w x y k got front row is does =
+    did_both (meets (event.Arrive l p) (TileV v) (LinkV x)) (TileV v) (LinkV x) (TileV w) (LinkV y)
+    (arrived_met l p v w x y k (sym front) row (does_some (is_some got) (take_from x) x y (ap (λ (o : Option Packet). is_some o) (is ∙ sym front)) does))
+
+-- a tile takes a packet
+pub takes : (v : TileView) (k : Packet) (z : ℤ) (r : Bool) → can_count v ≡ true → z ≡ v.counter → FitsSigned w64 z → int_lt (neg_ℤ (pos (2 ^ 63))) (to_z w64 (of_z w64 z)) ≡ true → r ≡ is_some (accepted k v) → r ≡ is_some (accept_row k v)
+takes v k z r counts is fits low some =
+    let here : int_lt (neg_ℤ (pos (2 ^ 63))) v.counter ≡ true = subst (λ x. int_lt (neg_ℤ (pos (2 ^ 63))) x ≡ true) (to_z-of_z w64 z fits ∙ is) low in
+    let same : is_some (accept_row k v) ≡ is_some (accepted k v) = rw (counts, here) (some_mapped arrived (accepted k v)) in
+    some ∙ sym same
