@@ -39,7 +39,7 @@ part_starts : (job : Job) (k : Kind) → IsSized job → StartsSo job.numbers (p
 part_starts job (kind.Tile tile) sized = (code_of (sections_of job) tile.0, by_address (thread_start job) job.numbers tile.0, threads_are job tile.0 sized, refl)
 part_starts job kind.Host sized = tt
 part_starts job (kind.Router board) sized = tt
-part_starts job (kind.Link from onto) sized = tt
+part_starts job (kind.Link from onto) sized = refl
 part_starts job kind.Detector sized = tt
 
 start_is : (job : Job) → IsJobStart job (start_of job) → IsSized job → IsStart (start_of job)

@@ -10,6 +10,7 @@ ghost use Rattle.job_load.specs.Loaded.{loaded};
 ghost use Rattle.tn_bag.specs.Law.{IsBagRun, IsStart};
 
 use job_load::laws::{law_memory, law_start};
+use tn_bag::laws::law_runs;
 
 /// The start of each job that is accepted is one of the bag machine's law.
 pub fn law_starts()
@@ -24,4 +25,5 @@ pub fn law_jobs()
     ensures { (job : Job) (start : WorldView) (history : List Event) (end : WorldView) → loaded job ≡ Ok start → Run start history end → IsBagRun start history end }
 {
     law_starts();
+    law_runs();
 }

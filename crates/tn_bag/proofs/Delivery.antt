@@ -3,7 +3,7 @@ use Rattle.std.specs.Int.{bit_at}
 use Rattle.std.specs.List.{range_with_len}
 use Rattle.std.proofs.lemmas.Bool.{and_parts, eqb-true}
 use Rattle.std.proofs.lemmas.List.{get_or-set_same, get_or-set_other}
-use Rattle.std.proofs.lemmas.List.Sums.{sum_by-append, sum_by-cons}
+use Rattle.std.proofs.lemmas.List.Sums.{sum_by-cons}
 use Rattle.tn_base.specs.declared.message.Dest.{Dest}
 use Rattle.tn_base.specs.declared.message.Letter.{Letter}
 use Rattle.tn_base.specs.declared.message.Packet.{Packet}
@@ -22,13 +22,13 @@ use Rattle.tn_rows.specs.WorldView.{WorldView}
 use Rattle.tn_bag.specs.declared.steps.BagStep.{BagStep}
 use Rattle.tn_bag.specs.declared.steps.BagStep.TheVariants as bag
 use Rattle.tn_bag.specs.Letters.{letters, packet_letters}
-use Rattle.tn_bag.specs.Standing.{standing_letters}
 use Rattle.tn_bag.specs.State.{BagState}
-use Rattle.tn_bag.specs.Tiles.{held_in, part_for, program_of, reach_of, sender_at, thread_of}
-use Rattle.tn_bag.proofs.Lift.{Good, On, good_lift, lift_same, program_stays, tile_here, tile_stands, with_tile}
-use Rattle.tn_bag.proofs.Runs.{ForDead, discards, run_before}
-use Rattle.tn_bag.proofs.Weights.{packet_w, same_bag, tile_w}
-use Rattle.std.proofs.Common.{ℕ, ◌+◌, ◌^◌, ◌%◌, ◌<◌, ◌≤◌, ◌≡◌, ◌⊎◌, ◌==◌, Bool, true, false, cond, List, [], ◌∷◌, ◌++◌, length, get_or, set, map, zero, suc, refl, sym, ◌∙◌, ap, subst, inl, inr, arith, Option, Some, None, is_none, unwrap_or, IsTrue, length-append, sum_by}
+use Rattle.tn_bag.specs.Tiles.{held_in, part_for, reach_of, sender_at, thread_of}
+use Rattle.tn_bag.proofs.Becomes.{Becomes, Drops, becomes_reached, nothing, of_packet, threads_stay, tile_becomes}
+use Rattle.tn_bag.proofs.Lift.{GoodTile, with_tile}
+use Rattle.tn_bag.proofs.Runs.{ForDead}
+use Rattle.tn_bag.proofs.Weights.{packet_w, tile_w}
+use Rattle.std.proofs.Common.{ℕ, ◌+◌, ◌^◌, ◌%◌, ◌<◌, ◌≤◌, ◌≡◌, ◌⊎◌, ◌==◌, Bool, true, false, cond, List, [], ◌∷◌, ◌++◌, length, get_or, set, map, zero, suc, refl, sym, ◌∙◌, ap, subst, inl, inr, arith, Option, Some, None, is_none, unwrap_or, IsTrue, sum_by}
 use Rattle.std.specs.Int.{bit_not, w64}
 use Rattle.std.specs.Int.RustNames.{count_ones}
 use Rattle.std.specs.Int.Bits.{bit_and}
@@ -51,9 +51,9 @@ use Rattle.tn_slots.proofs.Lists.{bit_cases}
 use Rattle.tn_tile.specs.declared.buffers.Buffers.{Buffers}
 use Rattle.tn_tile.specs.declared.tile.Sender.{Sender}
 use Rattle.tn_tile.specs.Receivers.{alive_of, dead_in, dead_of, receivers}
-use Rattle.tn_tile.specs.Rows.{buffer_at, counted, delivered_from, passed_by, received, sent_on, stored, stored_at, with_buffer}
+use Rattle.tn_tile.specs.Rows.{buffer_at, counted, delivered_from, passed, passed_by, received, sent_on, stored, stored_at, with_buffer}
 use Rattle.tn_tile.proofs.Dead.{dead_at, dead_below, dead_bit}
-use Rattle.tn_tile.proofs.Packed.{one_place, packed_below}
+use Rattle.tn_tile.proofs.Packed.{few_places, one_place, packed_below}
 use Rattle.tn_tile.proofs.Packets.{packet_fits}
 use Rattle.tn_tile.proofs.Shaped.{notes_shaped, pending_shaped, put_shaped, transit_shaped}
 use Rattle.tn_bag.specs.Letters.{Reach, letter, only_if}
@@ -61,58 +61,11 @@ use Rattle.tn_tile.proofs.Steps.{taken}
 use Rattle.tn_bag.specs.Steps.{delivery_steps, dropped_at, is_for_dead}
 use Rattle.tn_bag.proofs.Holding.{no_sender, stored_held}
 use Rattle.tn_bag.proofs.Receivers.{both_sets, letters_here, ones_are, parted, place_letter, router_away, thread_here, tile_here_is}
-use Rattle.tn_bag.proofs.Simulate.{Place, Reached, dropped_after, shown, sizes, tile_good}
+use Rattle.tn_bag.proofs.Simulate.{Place, Reached, shown, sizes, tile_good}
 use Rattle.tn_bag.proofs.Slots.{slot_none, slot_replaced, slot_w}
 use Rattle.tn_bag.proofs.Sums.{sum_filter, sum_same, sum_two}
 use Rattle.tn_bag.proofs.Threads.{pending_set}
 use Rattle.tn_bag.proofs.Weights.{buffers_w}
-
--- ---- letters that are dropped, and nothing else but places changes
-
-pub record Drops (w : WorldView) (p : ℕ) (v new : TileView) (ls : List Letter) : Type 0 where
-  pub weighs : (f : Letter → ℕ) → tile_w f (reach_of w) v ≡ sum_by f ls + tile_w f (reach_of w) new
-  pub holds : (j : ℕ) → held_in new j ≡ held_in v j
-  pub threads : new.threads ≡ v.threads
-  pub shape : new.shape ≡ v.shape
-  pub tile : new.tile ≡ v.tile
-  pub code : new.code ≡ v.code
-  pub shaped : WellShaped new
-  pub kept : WellKept new.pool
-  pub dropped : new.dropped ≡ v.dropped + length ls
-
-pub drops_reached : (got : ℕ → List Letter) (dropped : List Letter) (w : WorldView) (p : ℕ) (v new : TileView) (ls : List Letter) → Good w → On w p v → Drops w p v new ls → ForDead w.shape (shown got dropped (with_tile w p new)) ls →
-    Reached got dropped w (map bag.Discard ls) (with_tile w p new)
-drops_reached got dropped w p v new ls good on d dead =
-    let t = good.each p v on in
-    let there : WorldView = with_tile w p new in
-    record {
-      now = got;
-      gone = dropped ++ ls;
-      run = run_before (program_of w) (shown got dropped w) (record (shown got dropped there) { flight = ls ++ standing_letters there }) (shown got (dropped ++ ls) there) (map bag.Discard ls)
-          (record {
-            threads = λ b h. lift_same thread_at w p v new on (λ j u. ap (λ ts. get_or ts j no_thread) d.threads) b h;
-            flight = same_bag _ _ (λ f.
-                let x = d.weighs f in
-                let y = tile_stands f w p v new (sum_by f ls) 0 on (omega arith) in
-                let q = sum_by-append f ls (standing_letters there) in
-                omega arith);
-            got = λ b h. refl;
-            held = λ b slot h. ap (λ (x : ℕ → Option Letter). x slot) (lift_same held_in w p v new on (λ j u. d.holds j) b h);
-            dropped = refl;
-            host = refl;
-            script = refl;
-            host_sends = refl;
-            announcements = refl;
-          })
-          (discards (program_of w) (shown got dropped there) ls (standing_letters there) dropped dead);
-      good = good_lift w p v new good on (record { shape = d.shape ∙ t.shape; shaped = d.shaped; kept = d.kept; part = ap (λ x. tile_part (tile_place w.shape x)) d.tile ∙ t.part });
-      program = program_stays w p v new on d.code;
-      count =
-          let a = dropped_after w p v new on in
-          let l = length-append dropped ls in
-          let m = d.dropped in
-          omega arith;
-    }
 
 -- ---- a packet that goes on
 
@@ -140,31 +93,19 @@ buffer_more f n reach port.Down p b out e = absurd out
 buffer_more f n reach port.HostPort p b out e = absurd out
 buffer_more f n reach port.Here p b out e = absurd out
 
--- the tile after its thread's packet is taken up
-abbrev pub taken_up : TileView → ℕ → TileView
-taken_up v k = record v { pending = set v.pending k None }
-
-on_drops : (w : WorldView) (p a k : ℕ) (v : TileView) (packet : Packet) (way : Port) → Place w p v a k → pending_at v k ≡ Some packet → IsOut way → buffer_at way v.transit ≡ None →
-    Drops w p v (record (taken_up v k) { transit = with_buffer way (Some packet) v.transit }) []
-on_drops w p a k v packet way c e out empty =
-    let t = tile_good w p a k v c in
-    let z = sizes w p a k v c in
-    let fits = packet_fits v k packet t.shaped e in
-    record {
-      weighs = λ f.
-          let x = pending_set f w v k None z.below z.pending in
-          let y : packet_w f v.shape (reach_of w) (pending_at v k) ≡ packet_w f v.shape (reach_of w) (Some packet) = ap (packet_w f v.shape (reach_of w)) e in
-          let b = buffer_more f v.shape (reach_of w) way packet v.transit out empty in
-          omega arith;
-      holds = λ j. refl;
-      threads = refl;
-      shape = refl;
-      tile = refl;
-      code = refl;
-      shaped = transit_shaped (taken_up v k) way (Some packet) fits (pending_shaped v k None tt t.shaped);
-      kept = t.kept;
-      dropped = omega arith;
-    }
+on_drops : (w : WorldView) (v : TileView) (packet : Packet) (way : Port) → WellShaped v → WellKept v.pool → IsTrue (has_packet v.shape packet) → IsOut way → buffer_at way v.transit ≡ None →
+    Drops w v (record v { transit = with_buffer way (Some packet) v.transit }) [] (of_packet v.shape (reach_of w) packet) nothing
+on_drops w v packet way shaped kept fits out empty = record {
+  weighs = λ f. let b = buffer_more f v.shape (reach_of w) way packet v.transit out empty in omega arith;
+  holds = λ j. refl;
+  threads = refl;
+  shape = refl;
+  tile = refl;
+  code = refl;
+  shaped = transit_shaped v way (Some packet) fits shaped;
+  kept = kept;
+  dropped = omega arith;
+}
 
 -- ---- a packet whose receivers are here
 
@@ -246,20 +187,18 @@ dead_bit_at : (v : TileView) (k : ℕ) → k < length v.threads → bit_at (dead
 dead_bit_at v k h = dead_at v.threads k ∙ ap dead_bit (get_or_default v.threads k _ no_thread h)
 
 -- the letters for those that ended, by place
-dead_letters : (f : Letter → ℕ) (w : WorldView) (p a k : ℕ) (v : TileView) (packet : Packet) → Place w p v a k → IsTrue (has_packet v.shape packet) → tile_port v.tile packet.dest ≡ port.Here →
+dead_letters : (f : Letter → ℕ) (w : WorldView) (v : TileView) (packet : Packet) → WithinLimits v.shape → WellShaped v → IsTrue (has_packet v.shape packet) → tile_port v.tile packet.dest ≡ port.Here →
     sum_by f (filter (is_for_dead v) (packet_letters v.shape (reach_of w) packet))
     ≡ sum_by (λ j. cond (bit_at (dead_of v.threads (receivers v.shape packet.dest)) j == 1) (f (place_letter v.shape v.tile packet.origin packet.number packet.bytes j)) 0) (range_with_len 0 (tile_threads v.shape))
-dead_letters f w p a k v packet c fits here =
-    let t = tile_good w p a k v c in
-    let limits : WithinLimits v.shape = subst WithinLimits (sym t.shape) c.good.limits in
+dead_letters f w v packet limits shaped fits here =
     let l : ℕ → Letter = place_letter v.shape v.tile packet.origin packet.number packet.bytes in
     sum_filter f (is_for_dead v) (packet_letters v.shape (reach_of w) packet)
-    ∙ (letters_here (λ x. cond (is_for_dead v x) (f x) 0) v.shape (reach_of w) v.tile packet.origin packet.number packet.dest packet.bytes limits t.shaped.tile (and_parts _ _ fits).0 here
+    ∙ (letters_here (λ x. cond (is_for_dead v x) (f x) 0) v.shape (reach_of w) v.tile packet.origin packet.number packet.dest packet.bytes limits shaped.tile (and_parts _ _ fits).0 here
     ∙ sum_same (λ j. cond (bit_at (receivers v.shape packet.dest) j == 1) (cond (is_for_dead v (l j)) (f (l j)) 0) 0) (λ j. cond (bit_at (dead_of v.threads (receivers v.shape packet.dest)) j == 1) (f (l j)) 0) 0 (tile_threads v.shape)
     (λ j low high.
     let below : j < tile_threads v.shape = omega arith in
-    let within : j < length v.threads = let n = t.shaped.threads in omega arith in
-    let same : is_dead (thread_at v j).state ≡ is_for_dead v (l j) = ap (λ x. is_dead (thread_at v x).state) (sym (place_back v.shape v.tile j limits t.shaped.tile below).1) in
+    let within : j < length v.threads = let n = shaped.threads in omega arith in
+    let same : is_dead (thread_at v j).state ≡ is_for_dead v (l j) = ap (λ x. is_dead (thread_at v x).state) (sym (place_back v.shape v.tile j limits shaped.tile below).1) in
     sym (both_sets (receivers v.shape packet.dest) (dead_in v.threads) j (f (l j)) (is_for_dead v (l j)) (dead_bit_at v j within ∙ ap (λ b. cond b 1 0) same))))
 
 ones_in : (xs : List Letter) → sum_by (λ _. 1) xs ≡ length xs
@@ -271,15 +210,13 @@ bit_or_none b (inl e) = rw e refl
 bit_or_none b (inr e) = rw e refl
 
 -- they are as many as are counted
-dead_count : (w : WorldView) (p a k : ℕ) (v : TileView) (packet : Packet) → Place w p v a k → IsTrue (has_packet v.shape packet) → tile_port v.tile packet.dest ≡ port.Here →
+dead_count : (w : WorldView) (v : TileView) (packet : Packet) → WithinLimits v.shape → WellShaped v → IsTrue (has_packet v.shape packet) → tile_port v.tile packet.dest ≡ port.Here →
     length (filter (is_for_dead v) (packet_letters v.shape (reach_of w) packet)) ≡ count_ones (dead_of v.threads (receivers v.shape packet.dest))
-dead_count w p a k v packet c fits here =
-    let t = tile_good w p a k v c in
-    let limits : WithinLimits v.shape = subst WithinLimits (sym t.shape) c.good.limits in
+dead_count w v packet limits shaped fits here =
     let m : ℕ = dead_of v.threads (receivers v.shape packet.dest) in
     let low : m < 2 ^ tile_threads v.shape = let a = receivers_below v.shape v.tile packet.dest limits (and_parts _ _ fits).0 in let b = and_le_l (receivers v.shape packet.dest) (dead_in v.threads) in omega arith in
     let n = ones_in (filter (is_for_dead v) (packet_letters v.shape (reach_of w) packet)) in
-    let b = dead_letters (λ _. 1) w p a k v packet c fits here in
+    let b = dead_letters (λ _. 1) w v packet limits shaped fits here in
     let d = sum_same (λ j. cond (bit_at m j == 1) 1 0) (bit_at m) 0 (tile_threads v.shape) (λ j x y. bit_or_none (bit_at m j) (bit_cases m j)) in
     let e = ones_are (tile_threads v.shape) m low in
     omega arith
@@ -324,44 +261,39 @@ for_dead : (n : ShapeNumbers) (s : BagState) (v : TileView) (ls : List Letter) �
 for_dead n s v [] all = tt
 for_dead n s v (l ∷ ls) all = by_test n s l (filter (is_for_dead v) ls) (is_for_dead v l) all.0.0 all.0.1 (for_dead n s v ls all.1)
 
+-- in a machine in which the tile's threads are as they are
+abbrev pub ShowsThreads : WorldView → WorldView → ℕ → TileView → Type 0
+ShowsThreads w there p v = (b : ℕ) → IsTrue (has_thread w.shape b) → part_for w b ≡ p → thread_of there b ≡ thread_at v (place_in_tile w.shape b)
+
 -- the letters of a packet that the tile drops are for threads that ended
-dropped_dead : (got : ℕ → List Letter) (dropped : List Letter) (w : WorldView) (p a k : ℕ) (v new : TileView) (packet : Packet) → Place w p v a k → IsTrue (has_packet v.shape packet) → tile_port v.tile packet.dest ≡ port.Here → new.threads ≡ v.threads →
-    ForDead w.shape (shown got dropped (with_tile w p new)) (filter (is_for_dead v) (packet_letters v.shape (reach_of w) packet))
-dropped_dead got dropped w p a k v new packet c fits here same =
-    let t = tile_good w p a k v c in
-    let limits : WithinLimits v.shape = subst WithinLimits (sym t.shape) c.good.limits in
-    let s : BagState = shown got dropped (with_tile w p new) in
+dropped_dead : (got : ℕ → List Letter) (dropped : List Letter) (w there : WorldView) (p : ℕ) (v : TileView) (packet : Packet) → WithinLimits w.shape → GoodTile w.shape p v → IsTrue (has_packet v.shape packet) → tile_port v.tile packet.dest ≡ port.Here → ShowsThreads w there p v →
+    ForDead w.shape (shown got dropped there) (filter (is_for_dead v) (packet_letters v.shape (reach_of w) packet))
+dropped_dead got dropped w there p v packet small t fits here same =
+    let limits : WithinLimits v.shape = subst WithinLimits (sym t.shape) small in
+    let s : BagState = shown got dropped there in
     for_dead w.shape s v (packet_letters v.shape (reach_of w) packet)
     (each_here (DeadSo w.shape s v) v.shape (reach_of w) v.tile packet.origin packet.number packet.dest packet.bytes limits t.shaped.tile (and_parts _ _ fits).0 here
     (λ b h on.
-    let there : IsTrue (has_thread w.shape b) = subst (λ n. IsTrue (has_thread n b)) t.shape h in
+    let found : IsTrue (has_thread w.shape b) = subst (λ n. IsTrue (has_thread n b)) t.shape h in
     let near : part_for w b ≡ p = ap (λ x. tile_part (tile_place w.shape x)) on ∙ t.part in
-    let is : thread_of (with_tile w p new) b ≡ thread_at v (place_in_tile v.shape b) =
-    ap (λ x. thread_at x (place_in_tile w.shape b)) (tile_here w p new b c.on.within near)
-    ∙ (ap (λ ts. get_or ts (place_in_tile w.shape b) no_thread) same ∙ ap (λ n. thread_at v (place_in_tile n b)) (sym t.shape)) in
-    (there, λ dead. ap (λ (x : Thread). is_dead x.state) is ∙ dead)))
+    let is : thread_of there b ≡ thread_at v (place_in_tile v.shape b) = same b found near ∙ ap (λ n. thread_at v (place_in_tile n b)) (sym t.shape) in
+    (found, λ dead. ap (λ (x : Thread). is_dead x.state) is ∙ dead)))
 
-here_drops : (w : WorldView) (p a k : ℕ) (v : TileView) (packet : Packet) (mid : TileView) → Place w p v a k → pending_at v k ≡ Some packet → tile_port v.tile packet.dest ≡ port.Here →
-    Stored w (alive_of v.threads (receivers v.shape packet.dest)) packet (taken_up v k) mid →
-    Drops w p v (record mid { dropped = mid.dropped + count_ones (dead_of v.threads (receivers v.shape packet.dest)) }) (filter (is_for_dead v) (packet_letters v.shape (reach_of w) packet))
-here_drops w p a k v packet mid c e here m =
-    let t = tile_good w p a k v c in
-    let z = sizes w p a k v c in
-    let limits : WithinLimits v.shape = subst WithinLimits (sym t.shape) c.good.limits in
-    let fits = packet_fits v k packet t.shaped e in
+here_drops : (w : WorldView) (v : TileView) (packet : Packet) (mid : TileView) → WithinLimits v.shape → WellShaped v → IsTrue (has_packet v.shape packet) → tile_port v.tile packet.dest ≡ port.Here →
+    Stored w (alive_of v.threads (receivers v.shape packet.dest)) packet v mid →
+    Drops w v (record mid { dropped = mid.dropped + count_ones (dead_of v.threads (receivers v.shape packet.dest)) }) (filter (is_for_dead v) (packet_letters v.shape (reach_of w) packet)) (of_packet v.shape (reach_of w) packet) nothing
+here_drops w v packet mid limits shaped fits here m =
     let to : ℕ = receivers v.shape packet.dest in
     let l : ℕ → Letter = place_letter v.shape v.tile packet.origin packet.number packet.bytes in
     let dead : ℕ = dead_in v.threads in
-    let few = z.few in
-    let low : dead < 2 ^ 64 = let n = t.shaped.threads in let b = dead_below v.threads in let most : length v.threads ≤ 64 = omega arith in let q : 2 ^ length v.threads ≤ 2 ^ 64 = pow-le-pow_right (omega arith) most in omega arith in
+    let few : tile_threads v.shape ≤ 64 = few_places v.shape limits in
+    let low : dead < 2 ^ 64 = let n = shaped.threads in let b = dead_below v.threads in let most : length v.threads ≤ 64 = omega arith in let q : 2 ^ length v.threads ≤ 2 ^ 64 = pow-le-pow_right (omega arith) most in omega arith in
     record {
       weighs = λ f.
-          let x = pending_set f w v k None z.below z.pending in
-          let y : packet_w f v.shape (reach_of w) (pending_at v k) ≡ sum_by f (packet_letters v.shape (reach_of w) packet) = ap (packet_w f v.shape (reach_of w)) e in
-          let h = letters_here f v.shape (reach_of w) v.tile packet.origin packet.number packet.dest packet.bytes limits t.shaped.tile (and_parts _ _ fits).0 here in
+          let h = letters_here f v.shape (reach_of w) v.tile packet.origin packet.number packet.dest packet.bytes limits shaped.tile (and_parts _ _ fits).0 here in
           let q = sum_two (λ j. cond (bit_at (bit_and to dead) j == 1) (f (l j)) 0) (λ j. cond (bit_at (bit_and to (bit_not w64 dead)) j == 1) (f (l j)) 0) (λ j. cond (bit_at to j == 1) (f (l j)) 0) 0 (tile_threads v.shape)
           (λ j a b. parted to dead j (f (l j)) low (omega arith)) in
-          let d = dead_letters f w p a k v packet c fits here in
+          let d = dead_letters f w v packet limits shaped fits here in
           let s = m.weighs f in
           omega arith;
       holds = λ j. m.holds j;
@@ -371,40 +303,38 @@ here_drops w p a k v packet mid c e here m =
       code = m.code;
       shaped = notes_shaped mid (mid.dropped + count_ones (dead_of v.threads to)) mid.counter mid.black mid.held mid.ended m.shaped;
       kept = m.kept;
-      dropped = let n = dead_count w p a k v packet c fits here in let d = m.dropped in omega arith;
+      dropped = let n = dead_count w v packet limits shaped fits here in let d = m.dropped in omega arith;
     }
 
--- ---- a delivery
+-- ---- a packet that comes to a tile
 
--- what a delivery makes of the tile, and what it drops
-pub record Delivers (w : WorldView) (p : ℕ) (v new : TileView) (ls : List Letter) : Type 0 where
-  pub drops : Drops w p v new ls
-  pub dead : (got : ℕ → List Letter) (dropped : List Letter) → ForDead w.shape (shown got dropped (with_tile w p new)) ls
+-- what it makes of the tile, and what is dropped
+pub record Passes (w : WorldView) (p : ℕ) (v new : TileView) (packet : Packet) (ls : List Letter) : Type 0 where
+  pub drops : Drops w v new ls (of_packet v.shape (reach_of w) packet) nothing
+  pub dead : (got : ℕ → List Letter) (dropped : List Letter) (there : WorldView) → ShowsThreads w there p v → ForDead w.shape (shown got dropped there) ls
 
-on_delivers : (w : WorldView) (p a k : ℕ) (v new : TileView) (packet : Packet) (way : Port) → Place w p v a k → pending_at v k ≡ Some packet → IsOut way → sent_on way packet (taken_up v k) ≡ Some new → Delivers w p v new []
-on_delivers w p a k v new packet way c e out is =
-    let yes = taken (is_none (buffer_at way v.transit)) (Some (record (taken_up v k) { transit = with_buffer way (Some packet) v.transit })) new is in
-    let made : TileView = record (taken_up v k) { transit = with_buffer way (Some packet) v.transit } in
+on_passes : (w : WorldView) (p : ℕ) (v new : TileView) (packet : Packet) (way : Port) → GoodTile w.shape p v → IsTrue (has_packet v.shape packet) → IsOut way → sent_on way packet v ≡ Some new → Passes w p v new packet []
+on_passes w p v new packet way t fits out is =
+    let yes = taken (is_none (buffer_at way v.transit)) (Some (record v { transit = with_buffer way (Some packet) v.transit })) new is in
+    let made : TileView = record v { transit = with_buffer way (Some packet) v.transit } in
     let same : made ≡ new = ap (λ (o : Option TileView). unwrap_or o new) yes.1 in
-    subst (λ x. Delivers w p v x []) same (record {
-      drops = on_drops w p a k v packet way c e out (none_from (buffer_at way v.transit) yes.0);
-      dead = λ got dropped. tt;
+    subst (λ x. Passes w p v x packet []) same (record {
+      drops = on_drops w v packet way t.shaped t.kept fits out (none_from (buffer_at way v.transit) yes.0);
+      dead = λ got dropped there h. tt;
     })
 
 counted_is : (n : ℕ) (o : Option TileView) (new : TileView) → counted n o ≡ Some new → (mid : TileView) × (o ≡ Some mid) × (new ≡ record mid { dropped = mid.dropped + n })
 counted_is n None new is = cc is
 counted_is n (Some mid) new is = (mid, refl, sym (ap (λ (o : Option TileView). unwrap_or o new) is))
 
-here_delivers : (w : WorldView) (p a k : ℕ) (v new : TileView) (packet : Packet) → Place w p v a k → pending_at v k ≡ Some packet → tile_port v.tile packet.dest ≡ port.Here → received packet (taken_up v k) ≡ Some new →
-    Delivers w p v new (filter (is_for_dead v) (packet_letters v.shape (reach_of w) packet))
-here_delivers w p a k v new packet c e here is =
-    let t = tile_good w p a k v c in
-    let limits : WithinLimits v.shape = subst WithinLimits (sym t.shape) c.good.limits in
-    let fits = packet_fits v k packet t.shaped e in
+here_passes : (w : WorldView) (p : ℕ) (v new : TileView) (packet : Packet) → WithinLimits w.shape → GoodTile w.shape p v → IsTrue (has_packet v.shape packet) → tile_port v.tile packet.dest ≡ port.Here → received packet v ≡ Some new →
+    Passes w p v new packet (filter (is_for_dead v) (packet_letters v.shape (reach_of w) packet))
+here_passes w p v new packet small t fits here is =
+    let limits : WithinLimits v.shape = subst WithinLimits (sym t.shape) small in
     let to : ℕ = receivers v.shape packet.dest in
     let alive : ℕ = alive_of v.threads to in
     let count : ℕ = count_ones (dead_of v.threads to) in
-    let m = counted_is count (stored alive packet (taken_up v k)) new is in
+    let m = counted_is count (stored alive packet v) new is in
     let low : alive < 2 ^ length v.pool.queues =
     let x = receivers_below v.shape v.tile packet.dest limits (and_parts _ _ fits).0 in
     let y = and_le_l to (bit_not w64 (dead_in v.threads)) in
@@ -412,10 +342,10 @@ here_delivers w p a k v new packet c e here is =
     omega arith in
     let fit : length packet.bytes ≤ slot_bytes v.shape = leb-true (length packet.bytes) (slot_bytes v.shape) (and_parts _ _ fits).1 in
     let short : length packet.bytes ≤ v.pool.slot_bytes = rw t.shaped.slot_bytes fit in
-    let s : Stored w alive packet (taken_up v k) m.0 = stored_is w alive packet (taken_up v k) m.0 (alive == 0) refl (pending_shaped v k None tt t.shaped) t.kept low short m.1 in
-    subst (λ x. Delivers w p v x (filter (is_for_dead v) (packet_letters v.shape (reach_of w) packet))) (sym m.2) (record {
-      drops = here_drops w p a k v packet m.0 c e here s;
-      dead = λ got dropped. dropped_dead got dropped w p a k v (record m.0 { dropped = m.0.dropped + count }) packet c fits here s.threads;
+    let s : Stored w alive packet v m.0 = stored_is w alive packet v m.0 (alive == 0) refl t.shaped t.kept low short m.1 in
+    subst (λ x. Passes w p v x packet (filter (is_for_dead v) (packet_letters v.shape (reach_of w) packet))) (sym m.2) (record {
+      drops = here_drops w v packet m.0 limits t.shaped fits here s;
+      dead = λ got dropped there h. dropped_dead got dropped w there p v packet small t fits here h;
     })
 
 -- the letters that a packet drops on its way from the tile
@@ -429,36 +359,86 @@ dropped_on_way port.Up w packet v = []
 dropped_on_way port.Down w packet v = []
 dropped_on_way port.HostPort w packet v = []
 
-way_delivers : (w : WorldView) (p a k : ℕ) (v new : TileView) (packet : Packet) (way : Port) → Place w p v a k → pending_at v k ≡ Some packet → tile_port v.tile packet.dest ≡ way → passed_by way packet (taken_up v k) ≡ Some new →
-    Delivers w p v new (dropped_on_way way w packet v)
-way_delivers w p a k v new packet port.Here c e at is = here_delivers w p a k v new packet c e at is
-way_delivers w p a k v new packet port.East c e at is = on_delivers w p a k v new packet port.East c e tt is
-way_delivers w p a k v new packet port.West c e at is = on_delivers w p a k v new packet port.West c e tt is
-way_delivers w p a k v new packet port.South c e at is = on_delivers w p a k v new packet port.South c e tt is
-way_delivers w p a k v new packet port.North c e at is = on_delivers w p a k v new packet port.North c e tt is
-way_delivers w p a k v new packet port.Up c e at is = on_delivers w p a k v new packet port.Up c e tt is
-way_delivers w p a k v new packet port.Down c e at is = cc is
-way_delivers w p a k v new packet port.HostPort c e at is = cc is
+way_passes : (w : WorldView) (p : ℕ) (v new : TileView) (packet : Packet) (way : Port) → WithinLimits w.shape → GoodTile w.shape p v → IsTrue (has_packet v.shape packet) → tile_port v.tile packet.dest ≡ way → passed_by way packet v ≡ Some new →
+    Passes w p v new packet (dropped_on_way way w packet v)
+way_passes w p v new packet port.Here small t fits at is = here_passes w p v new packet small t fits at is
+way_passes w p v new packet port.East small t fits at is = on_passes w p v new packet port.East t fits tt is
+way_passes w p v new packet port.West small t fits at is = on_passes w p v new packet port.West t fits tt is
+way_passes w p v new packet port.South small t fits at is = on_passes w p v new packet port.South t fits tt is
+way_passes w p v new packet port.North small t fits at is = on_passes w p v new packet port.North t fits tt is
+way_passes w p v new packet port.Up small t fits at is = on_passes w p v new packet port.Up t fits tt is
+way_passes w p v new packet port.Down small t fits at is = cc is
+way_passes w p v new packet port.HostPort small t fits at is = cc is
+
+-- the letters that are dropped where the packet comes to the tile
+abbrev pub dropped_letters : WorldView → Packet → TileView → List Letter
+dropped_letters w packet v = dropped_on_way (tile_port v.tile packet.dest) w packet v
+
+pub packet_passes : (w : WorldView) (p : ℕ) (v new : TileView) (packet : Packet) → WithinLimits w.shape → GoodTile w.shape p v → IsTrue (has_packet v.shape packet) → passed packet v ≡ Some new → Passes w p v new packet (dropped_letters w packet v)
+packet_passes w p v new packet small t fits is = way_passes w p v new packet (tile_port v.tile packet.dest) small t fits refl is
 
 -- as steps of the bag machine
-discards_are : (way : Port) (w : WorldView) (packet : Packet) (v : TileView) → map bag.Discard (dropped_on_way way w packet v) ≡ dropped_at way (reach_of w) packet v
-discards_are port.Here w packet v = refl
-discards_are port.East w packet v = refl
-discards_are port.West w packet v = refl
-discards_are port.South w packet v = refl
-discards_are port.North w packet v = refl
-discards_are port.Up w packet v = refl
-discards_are port.Down w packet v = refl
-discards_are port.HostPort w packet v = refl
+discards_by : (way : Port) (w : WorldView) (packet : Packet) (v : TileView) → map bag.Discard (dropped_on_way way w packet v) ≡ dropped_at way (reach_of w) packet v
+discards_by port.Here w packet v = refl
+discards_by port.East w packet v = refl
+discards_by port.West w packet v = refl
+discards_by port.South w packet v = refl
+discards_by port.North w packet v = refl
+discards_by port.Up w packet v = refl
+discards_by port.Down w packet v = refl
+discards_by port.HostPort w packet v = refl
+
+pub discards_are : (w : WorldView) (packet : Packet) (v : TileView) → map bag.Discard (dropped_letters w packet v) ≡ delivery_steps (reach_of w) (Some packet) v
+discards_are w packet v = discards_by (tile_port v.tile packet.dest) w packet v
+
+-- ---- a delivery
+
+-- the tile after its thread's packet is taken up
+abbrev pub taken_up : TileView → ℕ → TileView
+taken_up v k = record v { pending = set v.pending k None }
+
+-- the packet's letters stood at the thread
+pub from_thread : (w : WorldView) (p a k : ℕ) (v new : TileView) (packet : Packet) (ls : List Letter) → Place w p v a k → pending_at v k ≡ Some packet → Drops w (taken_up v k) new ls (of_packet v.shape (reach_of w) packet) nothing → Drops w v new ls nothing nothing
+from_thread w p a k v new packet ls c e d =
+    let z = sizes w p a k v c in
+    record {
+      weighs = λ f.
+          let x = pending_set f w v k None z.below z.pending in
+          let y : packet_w f v.shape (reach_of w) (pending_at v k) ≡ packet_w f v.shape (reach_of w) (Some packet) = ap (packet_w f v.shape (reach_of w)) e in
+          let s = d.weighs f in
+          omega arith;
+      holds = d.holds;
+      threads = d.threads;
+      shape = d.shape;
+      tile = d.tile;
+      code = d.code;
+      shaped = d.shaped;
+      kept = d.kept;
+      dropped = d.dropped;
+    }
+
+-- what is dropped is the same
+taken_steps : (way : Port) (w : WorldView) (packet : Packet) (v : TileView) (k : ℕ) → dropped_at way (reach_of w) packet (taken_up v k) ≡ dropped_at way (reach_of w) packet v
+taken_steps port.Here w packet v k = refl
+taken_steps port.East w packet v k = refl
+taken_steps port.West w packet v k = refl
+taken_steps port.South w packet v k = refl
+taken_steps port.North w packet v k = refl
+taken_steps port.Up w packet v k = refl
+taken_steps port.Down w packet v k = refl
+taken_steps port.HostPort w packet v k = refl
 
 delivery_by : (got : ℕ → List Letter) (dropped : List Letter) (w : WorldView) (p a k : ℕ) (v new : TileView) (o : Option Packet) → Place w p v a k → pending_at v k ≡ o → delivered_from k o v ≡ Some new →
     Reached got dropped w (delivery_steps (reach_of w) o v) (with_tile w p new)
 delivery_by got dropped w p a k v new None c e is = cc is
 delivery_by got dropped w p a k v new (Some packet) c e is =
-    let way : Port = tile_port v.tile packet.dest in
-    let d = way_delivers w p a k v new packet way c e refl is in
-    subst (λ (steps : List BagStep). Reached got dropped w steps (with_tile w p new)) (discards_are way w packet v)
-    (drops_reached got dropped w p v new (dropped_on_way way w packet v) c.good c.on d.drops (d.dead got dropped))
+    let t = tile_good w p a k v c in
+    let ls : List Letter = dropped_letters w packet (taken_up v k) in
+    let good : GoodTile w.shape p (taken_up v k) = record { shape = t.shape; shaped = pending_shaped v k None tt t.shaped; kept = t.kept; part = t.part } in
+    let d = packet_passes w p (taken_up v k) new packet c.good.limits good (packet_fits v k packet t.shaped e) is in
+    let b : Becomes w (with_tile w p new) ls = tile_becomes w p v new ls c.good c.on (from_thread w p a k v new packet ls c e d.drops) in
+    subst (λ (steps : List BagStep). Reached got dropped w steps (with_tile w p new)) (discards_are w packet (taken_up v k) ∙ taken_steps (tile_port v.tile packet.dest) w packet v k)
+    (becomes_reached got dropped w (with_tile w p new) ls refl b (d.dead got dropped (with_tile w p new) (threads_stay w (with_tile w p new) p v ls c.on b)))
 
 pub delivery_reached : (got : ℕ → List Letter) (dropped : List Letter) (w : WorldView) (p a k : ℕ) (v new : TileView) → Place w p v a k → delivered_from k (pending_at v k) v ≡ Some new →
     Reached got dropped w (delivery_steps (reach_of w) (pending_at v k) v) (with_tile w p new)

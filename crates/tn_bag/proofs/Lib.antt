@@ -1,6 +1,7 @@
 pub mod Sums
 pub mod Weights
 pub mod Lift
+pub mod Links
 pub mod Slots
 pub mod Holding
 pub mod Fits
@@ -8,10 +9,14 @@ pub mod Runs
 pub mod Simulate
 pub mod Threads
 pub mod Receivers
+pub mod Becomes
 pub mod Delivery
+pub mod Crossings
 pub mod PartKinds
 pub mod Walks
 pub mod Starts
 pub mod Loops
+pub mod Spelled
+pub mod Arrivals
 pub mod Made
 pub mod Conserved

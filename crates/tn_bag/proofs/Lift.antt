@@ -5,13 +5,18 @@ use Rattle.std.proofs.lemmas.List.{get_or-set_same, get_or-set_other}
 use Rattle.tn_base.specs.declared.message.Letter.{Letter}
 use Rattle.tn_base.specs.declared.shape.ShapeNumbers.{ShapeNumbers}
 use Rattle.tn_base.specs.Address.{has_thread, has_tile, in_tile, place_in_tile, tile_of, tile_place, tile_threads}
-use Rattle.tn_base.specs.Parts.{part_count, tile_at, tile_part}
+use Rattle.tn_base.specs.Parts.{JoinsVisited, kind_of, part_count, tile_at, tile_part}
 use Rattle.tn_base.specs.Shape.{WithinLimits}
 use Rattle.tn_base.proofs.TilePlaces.{fields, place_below, place_named, tile_found}
 use Rattle.tn_slots.specs.WellKept.{WellKept}
 use Rattle.tn_tile.specs.Kept.{WellShaped}
 use Rattle.tn_tile.specs.TileView.{TileView}
-use Rattle.tn_rows.specs.PartView.{TileV, AbsentV}
+use Rattle.tn_base.specs.declared.ids.PartId.{PartId}
+use Rattle.tn_base.specs.declared.part.Kind.{Kind}
+use Rattle.tn_base.specs.declared.part.Kind.TheVariants as kind
+use Rattle.tn_link.specs.LinkView.{LinkView}
+use Rattle.tn_rows.specs.Events.{with_part}
+use Rattle.tn_rows.specs.PartView.{PartView, TileV, LinkV, AbsentV}
 use Rattle.tn_rows.specs.WorldView.{WorldView}
 use Rattle.tn_bag.specs.Standing.{standing_letters}
 use Rattle.tn_bag.specs.State.{put}
@@ -32,10 +37,41 @@ pub record On (w : WorldView) (p : ℕ) (v : TileView) : Type 0 where
   pub below : p < part_count w.shape
   pub is : get_or w.parts p AbsentV ≡ TileV v
 
+-- part q of the machine is this link
+pub record OnLink (w : WorldView) (q : ℕ) (x : LinkView) : Type 0 where
+  pub within : q < length w.parts
+  pub below : q < part_count w.shape
+  pub is : get_or w.parts q AbsentV ≡ LinkV x
+
+-- a part is a link, or is none
+abbrev pub IsLink : PartView → Type 0
+IsLink (TileV v) = ⊥
+IsLink (LinkV x) = Unit {0}
+IsLink AbsentV = ⊥
+
+abbrev pub NoLink : PartView → Type 0
+NoLink (TileV v) = Unit {0}
+NoLink (LinkV x) = ⊥
+NoLink AbsentV = Unit {0}
+
+-- links stand at the links' places, and nowhere else
+abbrev pub LinkAt : Kind → PartView → Type 0
+LinkAt kind.Host part = NoLink part
+LinkAt (kind.Tile tile) part = NoLink part
+LinkAt (kind.Router board) part = NoLink part
+LinkAt (kind.Link from onto) part = IsLink part
+LinkAt kind.Detector part = NoLink part
+
+-- links lead from visited parts to others
+abbrev pub LeadsOn : ShapeNumbers → Type 0
+LeadsOn n = (q : ℕ) (from onto : PartId) → kind_of n q ≡ kind.Link from onto → JoinsVisited n q from.0 onto.0
+
 pub record Good (w : WorldView) : Type 0 where
   pub count : length w.parts ≡ part_count w.shape
   pub limits : WithinLimits w.shape
+  pub leads : LeadsOn w.shape
   pub each : (p : ℕ) (v : TileView) → On w p v → GoodTile w.shape p v
+  pub links : (q : ℕ) → q < part_count w.shape → LinkAt (kind_of w.shape q) (get_or w.parts q AbsentV)
 
 -- the thread at an address is on the tile, at place k
 pub record Stands (n : ShapeNumbers) (v : TileView) (a k : ℕ) : Type 0 where
@@ -125,26 +161,50 @@ code_stays w p v new on e b = elim (cases_eq (part_for w b) p) [
 pub program_stays : (w : WorldView) (p : ℕ) (v new : TileView) → On w p v → new.code ≡ v.code → program_of (with_tile w p new) ≡ program_of w
 program_stays w p v new on e = λ i. record { shape = w.shape; code = λ b. code_stays w p v new on e b i; reach = reach_of w }
 
--- what one tile's letters lose or gain, the machine's do
+-- what one part's letters lose or gain, the machine's do
+pub part_changes : (f : Letter → ℕ) (w : WorldView) (p : ℕ) (part : PartView) → p < length w.parts → p < part_count w.shape →
+    sum_by f (standing_letters (with_part w p part)) + part_w f w.shape (reach_of w) (get_or w.parts p AbsentV) ≡ sum_by f (standing_letters w) + part_w f w.shape (reach_of w) part
+part_changes f w p part within below =
+    let weigh : PartView → ℕ = part_w f w.shape (reach_of w) in
+    let parts = set w.parts p part in
+    let a = standing_is f w in
+    let b = standing_is f (with_part w p part) in
+    let c = sum_one (λ q. weigh (get_or parts q AbsentV)) (λ q. weigh (get_or w.parts q AbsentV)) 0 (part_count w.shape) p (omega arith) (omega arith)
+    (λ q h ne. ap weigh (get_or-set_other w.parts p q part AbsentV ne)) in
+    let here : weigh (get_or parts p AbsentV) ≡ weigh part = ap weigh (get_or-set_same w.parts p part AbsentV within) in
+    omega arith
+
 pub tile_stands : (f : Letter → ℕ) (w : WorldView) (p : ℕ) (v new : TileView) (x y : ℕ) → On w p v →
     x + tile_w f (reach_of w) new ≡ y + tile_w f (reach_of w) v → x + sum_by f (standing_letters (with_tile w p new)) ≡ y + sum_by f (standing_letters w)
 tile_stands f w p v new x y on e =
-    let parts = set w.parts p (TileV new) in
-    let a = standing_is f w in
-    let b = standing_is f (with_tile w p new) in
-    let c = sum_one (λ q. part_w f (reach_of w) (get_or parts q AbsentV)) (λ q. part_w f (reach_of w) (get_or w.parts q AbsentV)) 0 (part_count w.shape) p (omega arith) (let h = on.below in omega arith)
-    (λ q h ne. ap (part_w f (reach_of w)) (get_or-set_other w.parts p q (TileV new) AbsentV ne)) in
-    let here : part_w f (reach_of w) (get_or parts p AbsentV) ≡ tile_w f (reach_of w) new = ap (part_w f (reach_of w)) (get_or-set_same w.parts p (TileV new) AbsentV on.within) in
-    let was : part_w f (reach_of w) (get_or w.parts p AbsentV) ≡ tile_w f (reach_of w) v = ap (part_w f (reach_of w)) on.is in
+    let weigh : PartView → ℕ = part_w f w.shape (reach_of w) in
+    let c = part_changes f w p (TileV new) on.within on.below in
+    let here : weigh (TileV new) ≡ tile_w f (reach_of w) new = refl in
+    let was : weigh (get_or w.parts p AbsentV) ≡ tile_w f (reach_of w) v = ap weigh on.is in
     omega arith
 
 pub on_new : (w : WorldView) (p : ℕ) (v new : TileView) → On w p v → On (with_tile w p new) p new
 on_new w p v new on = record { within = let l = length-set w.parts p (TileV new) in let h = on.within in omega arith; below = on.below; is = get_or-set_same w.parts p (TileV new) AbsentV on.within }
 
+still_tile : (k : Kind) (v new : TileView) → LinkAt k (TileV v) → LinkAt k (TileV new)
+still_tile kind.Host v new h = tt
+still_tile (kind.Tile tile) v new h = tt
+still_tile (kind.Router board) v new h = tt
+still_tile (kind.Link from onto) v new h = absurd h
+still_tile kind.Detector v new h = tt
+
 pub good_lift : (w : WorldView) (p : ℕ) (v new : TileView) → Good w → On w p v → GoodTile w.shape p new → Good (with_tile w p new)
 good_lift w p v new g on t = record {
   count = length-set w.parts p (TileV new) ∙ g.count;
   limits = g.limits;
+  leads = g.leads;
+  links = λ q h. elim (cases_eq q p) [
+    | inl e ↦
+        let here : get_or (set w.parts p (TileV new)) q AbsentV ≡ TileV new = ap (λ i. get_or (set w.parts p (TileV new)) i AbsentV) e ∙ get_or-set_same w.parts p (TileV new) AbsentV on.within in
+        let was : get_or w.parts q AbsentV ≡ TileV v = ap (λ i. get_or w.parts i AbsentV) e ∙ on.is in
+        subst (LinkAt (kind_of w.shape q)) (sym here) (still_tile (kind_of w.shape q) v new (subst (LinkAt (kind_of w.shape q)) was (g.links q h)))
+    | inr ne ↦ subst (LinkAt (kind_of w.shape q)) (sym (get_or-set_other w.parts p q (TileV new) AbsentV ne)) (g.links q h)
+  ];
   each = λ q u is. elim (cases_eq q p) [
     | inl e ↦
         let here : u ≡ new = sym (ap tile_in is.is) ∙ (ap (λ i. tile_in (get_or (set w.parts p (TileV new)) i AbsentV)) e ∙ ap tile_in (get_or-set_same w.parts p (TileV new) AbsentV on.within)) in

@@ -74,7 +74,7 @@ none_owed v s e =
     ∙ ap (λ b. only_if (b == 1) (place.Slot (record { 0 = v.tile }) s (record { 0 = in_tile v.shape v.tile k }), letter_in v k s)) (bit_at-zero k))
 
 -- a used slot's letter for a thread that is owed it
-message_some : (m : Option (List ℕ)) (x y : ℕ × ℕ) → option_map (λ bytes. x) m ≡ Some y → y ≡ x
+pub message_some : (m : Option (List ℕ)) (x y : ℕ × ℕ) → option_map (λ bytes. x) m ≡ Some y → y ≡ x
 message_some None x y e = cc e
 message_some (Some bytes) x y e = cc e
 

@@ -26,17 +26,9 @@ use Rattle.tn_slots.proofs.Lists.{bit_cases}
 use Rattle.tn_tile.specs.Receivers.{packed, receivers}
 use Rattle.tn_tile.proofs.Packed.{receiver_bit}
 use Rattle.tn_bag.specs.Letters.{Reach, letter, letters, only_if}
-use Rattle.tn_bag.proofs.Sums.{sum_below, sum_only, sum_same, sum_single}
+use Rattle.tn_bag.proofs.Sums.{sum_below, sum_only, sum_same, sum_shift, sum_single}
 
 -- ---- bits
-
-sum_shift : (f : ℕ → ℕ) (a n : ℕ) → sum_by f (range_with_len (a + 1) n) ≡ sum_by (λ k. f (k + 1)) (range_with_len a n)
-sum_shift f a zero = refl
-sum_shift f a (suc n) =
-    let x = sum_by-cons f (a + 1) (range_with_len (a + 1 + 1) n) in
-    let y = sum_by-cons (λ k. f (k + 1)) a (range_with_len (a + 1) n) in
-    let r = sum_shift f (a + 1) n in
-    omega arith
 
 one_digit : (m : ℕ) → ones m ≡ ones (m / 2) + m % 2
 unfolding count_ones

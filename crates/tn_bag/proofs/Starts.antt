@@ -11,6 +11,7 @@ use Rattle.tn_base.specs.Message.{slot_bytes}
 use Rattle.tn_base.specs.Parts.{kind_of, tile_at, tile_part}
 use Rattle.tn_base.specs.Shape.{WithinLimits}
 use Rattle.tn_base.proofs.Limits.{within_limits}
+use Rattle.tn_base.proofs.LinkEnds.{joins_visited}
 use Rattle.tn_base.proofs.Places.{orders_tiles}
 use Rattle.tn_base.proofs.TilePlaces.{tile_placed}
 use Rattle.tn_slots.specs.WellKept.{WellKept}
@@ -20,11 +21,11 @@ use Rattle.tn_tile.specs.TileView.{TileView}
 use Rattle.tn_tile.proofs.Fresh.{fresh_shaped}
 use Rattle.tn_tile.proofs.Packed.{few_places}
 use Rattle.tn_rows.specs.Events.{FitsKind}
-use Rattle.tn_rows.specs.PartView.{PartView, TileV, AbsentV}
+use Rattle.tn_rows.specs.PartView.{PartView, TileV, LinkV, AbsentV}
 use Rattle.tn_rows.specs.Runs.{Run}
 use Rattle.tn_rows.specs.WorldView.{WorldView}
 use Rattle.tn_bag.specs.Law.{IsBagRun, IsStart, StartsSo, dropped_on}
-use Rattle.tn_bag.proofs.Lift.{Good, GoodTile, On}
+use Rattle.tn_bag.proofs.Lift.{Good, GoodTile, LinkAt, On}
 use Rattle.tn_bag.proofs.PartKinds.{TilePart, tile_part_is}
 use Rattle.tn_bag.specs.State.{Program}
 use Rattle.tn_bag.proofs.Simulate.{shown}
@@ -62,13 +63,37 @@ good_tile w p v s limits on =
       part = ap (λ x. tile_part (tile_place n x)) at ∙ (ap tile_part (tile_placed n t.i limits t.below) ∙ t.part);
     }
 
+fits_link : (n : ShapeNumbers) (k : Kind) (part : PartView) → FitsKind n k part → LinkAt k part
+fits_link n (kind.Tile tile) (TileV v) f = tt
+fits_link n (kind.Tile tile) (LinkV x) f = f
+fits_link n (kind.Tile tile) AbsentV f = tt
+fits_link n (kind.Link from onto) (TileV v) f = f
+fits_link n (kind.Link from onto) (LinkV x) f = tt
+fits_link n (kind.Link from onto) AbsentV f = f
+fits_link n kind.Host (TileV v) f = tt
+fits_link n kind.Host (LinkV x) f = f
+fits_link n kind.Host AbsentV f = tt
+fits_link n (kind.Router board) (TileV v) f = tt
+fits_link n (kind.Router board) (LinkV x) f = f
+fits_link n (kind.Router board) AbsentV f = tt
+fits_link n kind.Detector (TileV v) f = tt
+fits_link n kind.Detector (LinkV x) f = f
+fits_link n kind.Detector AbsentV f = tt
+
 pub good_start : (w : WorldView) → IsStart w → Good w
 good_start w s =
     let limits = within_limits w.shape s.shape in
-    record { count = s.world.count; limits = limits; each = λ p v on. good_tile w p v s limits on }
+    record {
+      count = s.world.count;
+      limits = limits;
+      leads = λ q from onto e. joins_visited w.shape q from onto limits e;
+      each = λ p v on. good_tile w p v s limits on;
+      links = λ q h. fits_link w.shape (kind_of w.shape q) (get_or w.parts q AbsentV) (s.world.each q h);
+    }
 
 none_dropped : (n : ShapeNumbers) (part : PartView) → StartsSo n part → dropped_on part ≡ 0
 none_dropped n (TileV v) s = ap (λ (x : TileView). x.dropped) s.3
+none_dropped n (LinkV v) s = refl
 none_dropped n AbsentV s = refl
 
 sum_nothing : (n : ShapeNumbers) (parts : List PartView) → ((p : ℕ) → p < length parts → StartsSo n (get_or parts p AbsentV)) → sum_by dropped_on parts ≡ 0

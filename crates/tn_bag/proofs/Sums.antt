@@ -1,5 +1,6 @@
 -- Sums over numbers in a row, of which one term changes.
-use Rattle.std.proofs.Common.{ℕ, ◌+◌, ◌<◌, ◌≤◌, ◌≡◌, ◌≢◌, Bool, true, false, cond, List, [], ◌∷◌, map, zero, suc, refl, sym, ◌∙◌, ap, inl, inr, arith, sum_by}
+use Rattle.std.proofs.Common.{ℕ, ◌+◌, ◌<◌, ◌≤◌, ◌≡◌, ◌≢◌, Bool, true, false, cond, List, [], ◌∷◌, length, map, zero, suc, refl, sym, ◌∙◌, ap, inl, inr, arith, sum_by, Option, Some}
+use Rattle.std.specs.List.{slice_get}
 use Rattle.std.specs.List.{filter, flat_map, range_with_len}
 use Rattle.std.proofs.lemmas.Bool.{cases_eq}
 use Rattle.std.proofs.lemmas.List.Sums.{sum_by-cons, sum_by-append}
@@ -88,3 +89,27 @@ sum_single f n p h none =
 
 pub sum_below : {A : Type 0} (w : A → ℕ) (n : ℕ) (f : ℕ → List A) → sum_by w (each_below n f) ≡ sum_by (λ k. sum_by w (f k)) (range_with_len 0 n)
 sum_below w n f = sum_flat w f (range_with_len 0 n)
+
+pub sum_shift : (f : ℕ → ℕ) (a n : ℕ) → sum_by f (range_with_len (a + 1) n) ≡ sum_by (λ k. f (k + 1)) (range_with_len a n)
+sum_shift f a zero = refl
+sum_shift f a (suc n) =
+    let x = sum_by-cons f (a + 1) (range_with_len (a + 1 + 1) n) in
+    let y = sum_by-cons (λ k. f (k + 1)) a (range_with_len (a + 1) n) in
+    let r = sum_shift f (a + 1) n in
+    omega arith
+
+-- the elements of a list by their places
+pub sum_places : {A : Type 0} (g : Option A → ℕ) (h : A → ℕ) (xs : List A) → ((x : A) → g (Some x) ≡ h x) → sum_by (λ i. g (slice_get xs i)) (range_with_len 0 (length xs)) ≡ sum_by h xs
+sum_places g h [] e = refl
+sum_places g h (x ∷ xs) e =
+    let a = sum_by-cons (λ i. g (slice_get (x ∷ xs) i)) 0 (range_with_len (0 + 1) (length xs)) in
+    let b = sum_shift (λ i. g (slice_get (x ∷ xs) i)) 0 (length xs) in
+    let c = sum_same (λ k. g (slice_get (x ∷ xs) (k + 1))) (λ k. g (slice_get xs k)) 0 (length xs) (λ k l u. let o : k + 1 ≡ suc k = omega arith in ap (λ i. g (slice_get (x ∷ xs) i)) o) in
+    let d = sum_places g h xs e in
+    let f = sum_by-cons h x xs in
+    let first = e x in
+    omega arith
+
+pub sum_if : {A : Type 0} (w : A → ℕ) (b : Bool) (xs ys : List A) → sum_by w xs ≡ sum_by w ys → sum_by w (cond b xs []) ≡ cond b (sum_by w ys) 0
+sum_if w true xs ys e = e
+sum_if w false xs ys e = refl

@@ -1,11 +1,12 @@
 -- What runs of the machine mean: each is a run of the bag machine.
-use Rattle.std.specs.Prelude.{ℕ, ◌≡◌, ◌<◌, IsTrue, List, length, sum_by, slice_index_or}
+use Rattle.std.specs.Prelude.{ℕ, ◌≡◌, ◌<◌, IsTrue, List, [], length, sum_by, slice_index_or}
 use Rattle.tn_base.specs.declared.event.Event.{Event}
 use Rattle.tn_base.specs.declared.shape.ShapeNumbers.{ShapeNumbers}
 use Rattle.tn_base.specs.Address.{has_thread}
 use Rattle.tn_base.specs.Shape.{is_shape}
 use Rattle.tn_rows.specs.Events.{IsWorld}
-use Rattle.tn_rows.specs.PartView.{PartView, TileV, AbsentV}
+use Rattle.tn_rows.specs.PartView.{PartView, TileV, LinkV, AbsentV}
+use Rattle.tn_rows.specs.Runs.{Run}
 use Rattle.tn_rows.specs.WorldView.{WorldView}
 use Rattle.tn_thread.specs.declared.thread.Thread.{Thread}
 use Rattle.tn_tile.specs.Kept.{AreStarts, fresh_tile}
@@ -16,12 +17,13 @@ use Rattle.tn_bag.specs.State.{Agree, BagState}
 use Rattle.tn_bag.specs.Steps.{bag_of}
 use Rattle.tn_bag.specs.Tiles.{held_of, program_of, thread_of}
 
--- a tile at its start is over some code, with its threads at their start
+-- a tile at its start is over some code, with its threads at their start; a link holds no packet
 abbrev pub StartsSo : ShapeNumbers → PartView → Type 0
 StartsSo n (TileV v) = (words : List ℕ) × (threads : List Thread) × AreStarts n v.tile threads × (v ≡ fresh_tile n v.tile words threads)
+StartsSo n (LinkV v) = v ≡ record { packets = []; capacity = n.link }
 StartsSo n AbsentV = Unit {0}
 
--- the start of a machine: the parts are those of its shape, and each tile is at its start
+-- the start of a machine: the parts are those of its shape, and each is at its start
 pub record IsStart (w : WorldView) : Type 0 where
   pub shape : IsTrue (is_shape w.shape)
   pub world : IsWorld w
@@ -30,6 +32,7 @@ pub record IsStart (w : WorldView) : Type 0 where
 -- how many letters were dropped on a part, and on all parts
 abbrev pub dropped_on : PartView → ℕ
 dropped_on (TileV v) = v.dropped
+dropped_on (LinkV v) = 0
 dropped_on AbsentV = 0
 
 abbrev pub dropped_in : WorldView → ℕ
@@ -50,3 +53,7 @@ pub record IsBagRun (start : WorldView) (history : List Event) (end : WorldView)
   pub state : BagState
   pub run : BagRun (program_of start) (bag_at start) (bag_of start history) state
   pub shows : Shows end state
+
+-- each run of a machine from its start is a run of the bag machine
+abbrev pub EveryRunIsBagRun : Type 0
+EveryRunIsBagRun = (start : WorldView) (history : List Event) (end : WorldView) → IsStart start → Run start history end → IsBagRun start history end

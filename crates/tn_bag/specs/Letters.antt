@@ -7,8 +7,12 @@ use Rattle.tn_base.specs.declared.message.Dest.{Dest}
 use Rattle.tn_base.specs.declared.message.Dest.TheVariants as dest
 use Rattle.tn_base.specs.declared.message.Letter.{Letter}
 use Rattle.tn_base.specs.declared.message.Packet.{Packet}
+use Rattle.tn_base.specs.declared.part.Kind.{Kind}
+use Rattle.tn_base.specs.declared.part.Kind.TheVariants as kind
 use Rattle.tn_base.specs.declared.shape.ShapeNumbers.{ShapeNumbers}
 use Rattle.tn_base.specs.Address.{in_tile, tile_threads}
+use Rattle.tn_base.specs.Message.{has_packet}
+use Rattle.tn_base.specs.Parts.{kind_of}
 use Rattle.tn_base.specs.Ports.{board_x, board_y}
 
 -- the address of the host, as an origin and as a receiver
@@ -27,6 +31,26 @@ Reach = Board → ℕ → List ℕ → List Copy
 -- the board of an address; the host's is the first one
 abbrev pub board_of : ℕ → Board
 board_of a = record { x = board_x a; y = board_y a }
+
+-- the board of a part; the host's is the first one
+abbrev pub kind_board : Kind → Board
+kind_board kind.Host = board_of host_address
+kind_board (kind.Tile tile) = board_of tile.0
+kind_board (kind.Router board) = board
+kind_board (kind.Link from onto) = board_of host_address
+kind_board kind.Detector = board_of host_address
+
+-- the board of the part that a link leads to
+abbrev pub board_ahead : ShapeNumbers → Kind → Board
+board_ahead n kind.Host = board_of host_address
+board_ahead n (kind.Tile tile) = board_of host_address
+board_ahead n (kind.Router board) = board_of host_address
+board_ahead n (kind.Link from onto) = kind_board (kind_of n onto.0)
+board_ahead n kind.Detector = board_of host_address
+
+-- the board at which the keys of the packets on link p are looked up
+abbrev pub link_board : ShapeNumbers → ℕ → Board
+link_board n p = board_ahead n (kind_of n p)
 
 abbrev pub letter : ℕ → ℕ → ℕ → List ℕ → Letter
 letter origin number receiver bytes = record { origin = origin; number = number; receiver = receiver; bytes = bytes }
@@ -60,6 +84,11 @@ letters n reach origin number to bytes = letters_from (board_of origin) n reach 
 -- the letters of a packet that did not come to a router yet
 abbrev pub packet_letters : ShapeNumbers → Reach → Packet → List Letter
 packet_letters n reach p = letters n reach p.origin p.number p.dest p.bytes
+
+-- the letters of a packet on its way to a board, where its key is looked up. One that is none of the machine's has no
+-- receivers
+abbrev pub letters_to : Board → ShapeNumbers → Reach → Packet → List Letter
+letters_to board n reach p = if has_packet n p then letters_from board n reach p.origin p.number p.dest p.bytes else []
 
 -- two bags are the same: each test is passed by as many letters of the one as of the other
 pub record SameBag (xs ys : List Letter) : Type 0 where

@@ -1,5 +1,5 @@
 -- The named places in which letters stand that were sent and are neither handed nor dropped.
-use Rattle.std.specs.Prelude.{ℕ, ◌==◌, List, [], ◌∷◌, ◌++◌, length, map, Option, Some, None, slice_index_or}
+use Rattle.std.specs.Prelude.{ℕ, ◌==◌, List, [], ◌∷◌, ◌++◌, length, map, Option, Some, None, slice_get, slice_index_or}
 use Rattle.std.specs.Int.{bit_at}
 use Rattle.std.specs.List.{flat_map}
 use Rattle.tn_base.specs.declared.message.Letter.{Letter}
@@ -9,7 +9,8 @@ use Rattle.tn_base.specs.declared.port.Port.TheVariants as port
 use Rattle.tn_base.specs.declared.shape.ShapeNumbers.{ShapeNumbers}
 use Rattle.tn_base.specs.Address.{in_tile, tile_threads}
 use Rattle.tn_base.specs.Parts.{part_count}
-use Rattle.tn_rows.specs.PartView.{PartView, TileV, AbsentV}
+use Rattle.tn_link.specs.LinkView.{LinkView}
+use Rattle.tn_rows.specs.PartView.{PartView, TileV, LinkV, AbsentV}
 use Rattle.tn_rows.specs.WorldView.{WorldView}
 use Rattle.tn_slots.specs.Pool.{slot_at}
 use Rattle.tn_tile.specs.Rows.{buffer_at}
@@ -17,7 +18,7 @@ use Rattle.tn_tile.specs.Step.{pending_at}
 use Rattle.tn_tile.specs.TileView.{TileView}
 use Rattle.tn_bag.specs.declared.place.Place.{Place}
 use Rattle.tn_bag.specs.declared.place.Place.TheVariants as place
-use Rattle.tn_bag.specs.Letters.{Reach, each_below, only_if, packet_letters}
+use Rattle.tn_bag.specs.Letters.{Reach, each_below, letters_to, link_board, only_if, packet_letters}
 use Rattle.tn_bag.specs.State.{BagState}
 use Rattle.tn_bag.specs.Tiles.{held_of, letter_in, reach_of, thread_of}
 
@@ -54,14 +55,28 @@ owed_standing v s = each_below (tile_threads v.shape) (owed_to v s)
 abbrev pub slots_standing : TileView → List (Place × Letter)
 slots_standing v = each_below (length v.pool.slots) (owed_standing v)
 
+-- on a tile, which has this part's number
+abbrev pub tile_standing : Reach → ℕ → TileView → List (Place × Letter)
+tile_standing reach p v = pending_standing reach v ++ transit_standing reach p v ++ slots_standing v
+
+-- of the packet at a place of a link, which has this part's number
+abbrev pub crossing_at : ShapeNumbers → Reach → ℕ → ℕ → Option Packet → List (Place × Letter)
+crossing_at n reach p i None = []
+crossing_at n reach p i (Some k) = map (λ l. (place.OnLink (record { 0 = p }) i, l)) (letters_to (link_board n p) n reach k)
+
+-- of the packets on a link, the first one at 0
+abbrev pub link_standing : ShapeNumbers → Reach → ℕ → LinkView → List (Place × Letter)
+link_standing n reach p v = each_below (length v.packets) (λ i. crossing_at n reach p i (slice_get v.packets i))
+
 -- on a part, which has this number
-abbrev pub part_standing : Reach → ℕ → PartView → List (Place × Letter)
-part_standing reach p (TileV v) = pending_standing reach v ++ transit_standing reach p v ++ slots_standing v
-part_standing reach p AbsentV = []
+abbrev pub part_standing : ShapeNumbers → Reach → ℕ → PartView → List (Place × Letter)
+part_standing n reach p (TileV v) = tile_standing reach p v
+part_standing n reach p (LinkV v) = link_standing n reach p v
+part_standing n reach p AbsentV = []
 
 -- on the part of this number of a machine
 abbrev pub standing_on : WorldView → ℕ → List (Place × Letter)
-standing_on w p = part_standing (reach_of w) p (slice_index_or w.parts p AbsentV)
+standing_on w p = part_standing w.shape (reach_of w) p (slice_index_or w.parts p AbsentV)
 
 -- the letters in their places, by part, then by the kind of place, then by what names it
 abbrev pub standing : WorldView → List (Place × Letter)

@@ -11,8 +11,9 @@ use Rattle.tn_base.specs.declared.port.Port.{Port}
 use Rattle.tn_base.specs.declared.port.Port.TheVariants as port
 use Rattle.tn_base.specs.Address.{place_in_tile}
 use Rattle.tn_base.specs.Ports.{tile_port}
-use Rattle.tn_rows.specs.Events.{happened, place_of}
-use Rattle.tn_rows.specs.PartView.{PartView, TileV, AbsentV}
+use Rattle.tn_rows.specs.Events.{carried, happened}
+use Rattle.tn_rows.specs.PartView.{PartView, TileV, LinkV, AbsentV}
+use Rattle.tn_rows.specs.Places.{Places, Nowhere, One, Two, places}
 use Rattle.tn_rows.specs.WorldView.{WorldView}
 use Rattle.tn_slots.specs.Pool.{key_for, queue_at}
 use Rattle.tn_slots.specs.Queues.{first_of}
@@ -85,7 +86,7 @@ abbrev pub delivery_steps : Reach → Option Packet → TileView → List BagSte
 delivery_steps reach None v = []
 delivery_steps reach (Some p) v = dropped_at (tile_port v.tile p.dest) reach p v
 
--- the steps that an event on a tile is; it is a turn or a delivery
+-- the steps that an event on one tile is; it is a turn or a delivery
 abbrev pub tile_steps : Reach → Event → TileView → List BagStep
 tile_steps reach (event.Turn t n) v = turn_steps t.0 (place_in_tile v.shape t.0) n v
 tile_steps reach (event.Deliver t) v = delivery_steps reach (pending_at v (place_in_tile v.shape t.0)) v
@@ -94,11 +95,32 @@ tile_steps reach _ v = []
 abbrev pub part_steps : Reach → Event → Option PartView → List BagStep
 part_steps reach e None = []
 part_steps reach e (Some (TileV v)) = tile_steps reach e v
+part_steps reach e (Some (LinkV v)) = []
 part_steps reach e (Some AbsentV) = []
+
+-- a part takes the packet that the other part of an event gives
+abbrev pub taking_steps : Reach → Option Packet → PartView → List BagStep
+taking_steps reach packet (TileV v) = delivery_steps reach packet v
+taking_steps reach packet (LinkV v) = []
+taking_steps reach packet AbsentV = []
+
+abbrev pub arrival_steps : Reach → Option Packet → Option PartView → List BagStep
+arrival_steps reach packet None = []
+arrival_steps reach packet (Some part) = taking_steps reach packet part
+
+-- the steps that an event on two parts is; only what arrives can be dropped
+abbrev pub meeting_steps : Reach → Event → Option PartView → Option PartView → List BagStep
+meeting_steps reach (event.Arrive l p) low high = arrival_steps reach (option_and_then carried high) low
+meeting_steps reach _ low high = []
+
+abbrev pub steps_at : Event → WorldView → Places → List BagStep
+steps_at e w Nowhere = []
+steps_at e w (One p) = part_steps (reach_of w) e (slice_get w.parts p)
+steps_at e w (Two p q) = meeting_steps (reach_of w) e (slice_get w.parts p) (slice_get w.parts q)
 
 -- the steps that an event is
 abbrev pub event_steps : Event → WorldView → List BagStep
-event_steps e w = part_steps (reach_of w) e (option_and_then (slice_get w.parts) (place_of w.shape e))
+event_steps e w = steps_at e w (places w.shape e)
 
 -- the steps that a history is; behind an event that is not enabled there are none
 abbrev pub bag_of : WorldView → List Event → List BagStep

@@ -10,7 +10,7 @@ use Rattle.tn_tile.specs.declared.tile.Sender.{Sender}
 use Rattle.tn_tile.specs.Kept.{fresh_tile}
 use Rattle.tn_tile.specs.Step.{no_thread, thread_at}
 use Rattle.tn_tile.specs.TileView.{TileView}
-use Rattle.tn_rows.specs.PartView.{PartView, TileV, AbsentV}
+use Rattle.tn_rows.specs.PartView.{PartView, TileV, LinkV, AbsentV}
 use Rattle.tn_rows.specs.WorldView.{WorldView}
 use Rattle.tn_bag.specs.Letters.{Reach, letter}
 use Rattle.tn_bag.specs.State.{Program}
@@ -21,6 +21,7 @@ no_tile = fresh_tile no_thread.shape 0 [] []
 
 abbrev pub tile_in : PartView → TileView
 tile_in (TileV v) = v
+tile_in (LinkV v) = no_tile
 tile_in AbsentV = no_tile
 
 -- the part of the tile that the thread at an address is on, and the tile

@@ -7,6 +7,8 @@ pub mod laws;
 mod letters;
 pub mod place;
 pub mod places;
+pub mod spell;
 pub mod steps;
 #[cfg(test)]
 mod tests;
+mod turns;

@@ -3,7 +3,7 @@
 ghost use Rattle.std.specs.Prelude.{◌≡◌, ◌<◌, ◌++◌, IfOk, IsTrue, OnOk, MatchOption, length, map, option_copied};
 ghost use Rattle.tn_base.specs.Address.{tile_threads};
 ghost use Rattle.tn_base.specs.Message.{has_packet};
-ghost use Rattle.tn_bag.specs.Standing.{owed_standing, part_standing, pending_standing, slots_standing, standing, transit_standing, waiting};
+ghost use Rattle.tn_bag.specs.Standing.{crossing_at, link_standing, owed_standing, part_standing, pending_standing, slots_standing, standing, tile_standing, transit_standing, waiting};
 ghost use Rattle.tn_bag.specs.Tiles.{no_reach};
 
 use crate::letters::letters_of;
@@ -12,37 +12,95 @@ use std::alloc::{AllocError, Global};
 use tn_base::ids::PartId;
 use tn_base::message::{Letter, Packet};
 use tn_base::port::Port;
+use tn_base::shape::Shape;
+use tn_link::link::Link;
 use tn_tile::tile::Tile;
 use tn_world::part::Part;
 use tn_world::world::World;
 
 /// All letters that were sent and are neither handed nor dropped, each with its place: by part, then by the kind of
 /// place, then by what names it.
-pub fn standing(alloc: Global, world: &World) -> Result<Vec<(Place, Letter)>, AllocError>
+pub fn standing<L: Link>(
+    alloc: Global,
+    world: &World<L>,
+) -> Result<Vec<(Place, Letter)>, AllocError>
     ensures { IfOk result (λ all. all.items ≡ standing world.now) }
 {
     let mut all = Vec::new(alloc);
     for p in 0..world.shape().part_count() {
-        push_part(&mut all, alloc, p, world.part(PartId(p)))?;
+        push_part(&mut all, alloc, world.shape(), p, world.part(PartId(p)))?;
     }
     Ok(all)
 }
 
 /// The letters on a part.
-fn push_part(
+fn push_part<L: Link>(
+    all: &mut Vec<(Place, Letter)>,
+    alloc: Global,
+    shape: &Shape,
+    p: u32,
+    part: &Part<L>,
+) -> Result<(), AllocError>
+    ensures { OnOk result (all.new.items ≡ all.old.items ++ part_standing shape.now no_reach p part.now) }
+{
+    if let Some(tile) = part.as_tile() {
+        return push_tile(all, alloc, p, tile);
+    }
+    if let Some(link) = part.as_link() {
+        return push_link(all, alloc, shape, p, link);
+    }
+    Ok(())
+}
+
+/// The letters on a tile.
+fn push_tile(
     all: &mut Vec<(Place, Letter)>,
     alloc: Global,
     p: u32,
-    part: &Part,
+    tile: &Tile,
 ) -> Result<(), AllocError>
-    ensures { OnOk result (all.new.items ≡ all.old.items ++ part_standing no_reach p part.now) }
+    ensures { OnOk result (all.new.items ≡ all.old.items ++ tile_standing no_reach p tile.now) }
 {
-    let Some(tile) = part.as_tile() else {
-        return Ok(());
-    };
     push_pending(all, alloc, tile)?;
     push_transit(all, alloc, p, tile)?;
     push_slots(all, tile)
+}
+
+/// The letters on a link.
+fn push_link<L: Link>(
+    all: &mut Vec<(Place, Letter)>,
+    alloc: Global,
+    shape: &Shape,
+    p: u32,
+    link: &L,
+) -> Result<(), AllocError>
+    ensures { OnOk result (all.new.items ≡ all.old.items ++ link_standing shape.now no_reach p (L.content link.now)) }
+{
+    for i in 0..link.len() {
+        push_crossing(all, alloc, shape, p, i, link.get(i))?;
+    }
+    Ok(())
+}
+
+/// The letters of the packet at a place of a link. One that is none of the machine's has no receivers.
+fn push_crossing(
+    all: &mut Vec<(Place, Letter)>,
+    alloc: Global,
+    shape: &Shape,
+    p: u32,
+    i: u32,
+    packet: Option<&Packet>,
+) -> Result<(), AllocError>
+    ensures { OnOk result (all.new.items ≡ all.old.items ++ crossing_at shape.now no_reach p i (option_copied packet.entry)) }
+{
+    let Some(packet) = packet else {
+        return Ok(());
+    };
+    if !shape.has_packet(packet) {
+        return Ok(());
+    }
+    let letters = letters_of(alloc, shape, packet)?;
+    push_letters(all, Place::OnLink(PartId(p), i), &letters)
 }
 
 /// The letters of the packets that the threads of a tile sent.

@@ -1,0 +1,301 @@
+-- What the calls that spell a history, and that list the letters on links, read.
+use Rattle.std.specs.List.{filter, slice_get}
+use Rattle.std.specs.Int.{bit_at}
+use Rattle.std.proofs.lemmas.Nat.Bits.{bit_at-zero}
+use Rattle.std.proofs.Common.{◌⊎◌, inl, inr, ◌&&◌, ℕ, ◌+◌, ◌-◌, ◌<◌, ◌≤◌, ◌^◌, nat_lt, ◌≡◌, ◌==◌, ◌++◌, Bool, true, false, cond, List, [], ◌∷◌, length, get_or, map, drop, zero, suc, refl, sym, ◌∙◌, ap, subst, arith, Option, Some, None, is_some, unwrap_or, append_assoc, length-set}
+use Rattle.std.proofs.lemmas.Bool.{and_parts, eqb-true}
+use Rattle.std.proofs.lemmas.List.{append-nil, at_drop_more, get_or-set_same}
+use Rattle.tn_base.specs.declared.message.Letter.{Letter}
+use Rattle.tn_base.specs.declared.op.Op.{Op}
+use Rattle.tn_base.specs.declared.op.Op.TheVariants as op
+use Rattle.tn_base.specs.declared.shape.ShapeNumbers.{ShapeNumbers}
+use Rattle.tn_base.specs.Address.{has_thread, in_tile, place_in_tile, tile_of}
+use Rattle.tn_base.proofs.TilePlaces.{place_below, place_named}
+use Rattle.tn_tile.specs.Kept.{WellShaped}
+use Rattle.tn_thread.specs.declared.state.ThreadState.TheVariants as state
+use Rattle.tn_link.specs.LinkView.{LinkView}
+use Rattle.tn_slots.specs.Pool.{message_at, queue_at, slot_at, taken, taken_from}
+use Rattle.tn_slots.specs.PoolModel.{PoolModel}
+use Rattle.tn_slots.specs.Queues.{first_of}
+use Rattle.tn_slots.specs.Slot.{is_free}
+use Rattle.tn_slots.specs.WellKept.{WellKept, times}
+use Rattle.tn_slots.proofs.Kept.{free_masks, taken_some}
+use Rattle.tn_slots.proofs.Lists.{bit_cases, times-cons, times_first}
+use Rattle.tn_slots.proofs.Owed.{first_is}
+use Rattle.tn_thread.specs.declared.thread.Thread.{Thread}
+use Rattle.tn_thread.specs.Step.{runnable}
+use Rattle.tn_tile.specs.Rows.{can_count, is_here, sender_of, turn_row}
+use Rattle.tn_tile.specs.Step.{can_step, no_thread, sight_at, step_at_place, stepped, steps_of, thread_at, with_thread}
+use Rattle.tn_tile.specs.Turns.{StepsUpTo}
+use Rattle.tn_tile.specs.TileView.{TileView}
+use Rattle.tn_tile.proofs.Steps.{stepped_shape}
+use Rattle.tn_bag.specs.declared.place.Place.{Place}
+use Rattle.tn_bag.specs.declared.steps.BagStep.{BagStep}
+use Rattle.tn_bag.specs.declared.steps.BagStep.TheVariants as bag
+use Rattle.tn_bag.specs.Letters.{letter, only_if}
+use Rattle.tn_bag.specs.Standing.{crossing_at}
+use Rattle.tn_bag.specs.Steps.{thread_step, turn_steps}
+use Rattle.tn_bag.specs.Tiles.{letter_in, no_reach, sender_at}
+use Rattle.tn_bag.proofs.Made.{message_some}
+use Rattle.tn_bag.proofs.Walks.{acted_tile}
+use Rattle.tn_bag.proofs.Simulate.{next, op_fits}
+
+-- the letters at each place of a link
+abbrev pub crossings : ShapeNumbers → ℕ → LinkView → ℕ → List (Place × Letter)
+crossings n p v i = crossing_at n no_reach p i (slice_get v.packets i)
+
+-- ---- letters that are dropped
+
+pub dead_more : (test : Letter → Bool) (xs : List Letter) (i : ℕ) (d : Letter) (before now : List BagStep) → i < length xs → now ≡ before ++ map bag.Discard (only_if (test (get_or xs i d)) (get_or xs i d)) →
+    now ++ map bag.Discard (filter test (drop (i + 1) xs)) ≡ before ++ map bag.Discard (filter test (drop i xs))
+dead_more test xs i d before now h e =
+    ap (λ (ys : List BagStep). ys ++ map bag.Discard (filter test (drop (i + 1) xs))) e
+    ∙ (by (test (get_or xs i d)) (get_or xs i d) (filter test (drop (i + 1) xs))
+    ∙ sym (at_drop_more (λ ys. before ++ map bag.Discard (filter test ys)) xs i d h))
+  where
+    by : (b : Bool) (x : Letter) (rest : List Letter) → (before ++ map bag.Discard (only_if b x)) ++ map bag.Discard rest ≡ before ++ map bag.Discard (cond b (x ∷ rest) rest)
+    by true x rest = append_assoc before (bag.Discard x ∷ []) (map bag.Discard rest)
+    by false x rest = append_assoc before [] (map bag.Discard rest)
+
+-- ---- a queue that is taken slot by slot
+
+pub record QueueLeft (was now : PoolModel) (k made : ℕ) : Type 0 where
+  pub queue : queue_at now k ≡ drop made (queue_at was k)
+  pub threads : length now.queues ≡ length was.queues
+
+times_at : (q : List ℕ) (i d : ℕ) → i < length q → 1 ≤ times (get_or q i d) q
+times_at [] i d h = absurd (omega arith)
+times_at (x ∷ q) zero d h = let a = times_first x q in omega arith
+times_at (x ∷ q) (suc i) d h = let a = times-cons (get_or q i d) x q in let b = times_at q i d (omega arith) in omega arith
+
+-- a slot of a queue is used
+owed_used : (p : PoolModel) (k s : ℕ) → bit_at (slot_at p s).owed k ≡ 1 → is_some (message_at p s) ≡ true
+owed_used p k s e = by (is_free (slot_at p s)) refl
+  where
+    by : (b : Bool) → is_free (slot_at p s) ≡ b → is_some (cond b None (Some (slot_at p s).bytes)) ≡ true
+    by false f = refl
+    by true f = let z : bit_at (slot_at p s).owed k ≡ 0 = ap (λ m. bit_at m k) (free_masks (slot_at p s) f).0 ∙ bit_at-zero k in absurd (omega arith)
+
+pub queued_used : (p : PoolModel) (k i d : ℕ) → WellKept p → k < length p.queues → i < length (queue_at p k) → is_some (message_at p (get_or (queue_at p k) i d)) ≡ true
+queued_used p k i d kept h within =
+    let s : ℕ = get_or (queue_at p k) i d in
+    let once = kept.each k s h in
+    let some = times_at (queue_at p k) i d within in
+    let most = bit_cases (slot_at p s).owed k in
+    owed_used p k s (by most (omega arith))
+  where
+    by : (bit_at (slot_at p (get_or (queue_at p k) i d)).owed k ≡ 1) ⊎ (bit_at (slot_at p (get_or (queue_at p k) i d)).owed k ≡ 0) → 1 ≤ bit_at (slot_at p (get_or (queue_at p k) i d)).owed k → bit_at (slot_at p (get_or (queue_at p k) i d)).owed k ≡ 1
+    by (inl e) h = e
+    by (inr e) h = absurd (omega arith)
+
+first_at : (q : List ℕ) (i d : ℕ) → i < length q → first_of (drop i q) ≡ Some (get_or q i d)
+first_at [] i d h = absurd (omega arith)
+first_at (x ∷ q) zero d h = refl
+first_at (x ∷ q) (suc i) d h = first_at q i d (omega arith)
+
+-- the next slot of the queue
+pub next_first : (was now : PoolModel) (k i d : ℕ) → QueueLeft was now k i → i < length (queue_at was k) → first_of (queue_at now k) ≡ Some (get_or (queue_at was k) i d)
+next_first was now k i d left h = ap first_of left.queue ∙ first_at (queue_at was k) i d h
+
+pub same_some : {A : Type 0} (x y : A) → Some x ≡ Some y → x ≡ y
+same_some x y e = ap (λ o. unwrap_or o x) e
+
+-- the same, as it is read
+pub first_left : (was now : PoolModel) (k place i count : ℕ) (r : Option ℕ) → QueueLeft was now k i → place ≡ k → i < count → count ≡ length (queue_at was k) → r ≡ first_of (queue_at now place) → r ≡ Some (get_or (queue_at was k) i 0)
+first_left was now k place i count r left at h long e = e ∙ (ap (λ j. first_of (queue_at now j)) at ∙ next_first was now k i 0 left (omega arith))
+
+drop_suc : (q : List ℕ) (i : ℕ) → drop 1 (drop i q) ≡ drop (suc i) q
+drop_suc [] zero = refl
+drop_suc [] (suc i) = refl
+drop_suc (x ∷ q) zero = refl
+drop_suc (x ∷ q) (suc i) = drop_suc q i
+
+drop_next : (q : List ℕ) (i : ℕ) → drop 1 (drop i q) ≡ drop (i + 1) q
+drop_next q i = let o : suc i ≡ i + 1 = omega arith in drop_suc q i ∙ ap (λ n. drop n q) o
+
+pub next_left : (was now new : PoolModel) (k i : ℕ) → QueueLeft was now k i → k < length was.queues → i < length (queue_at was k) → new ≡ taken k now → QueueLeft was new k (i + 1)
+next_left was now new k i left h within e =
+    let first = next_first was now k i 0 left within in
+    let is : new ≡ taken_from k (get_or (queue_at was k) i 0 ∷ drop 1 (queue_at now k)) now = e ∙ taken_some now k (get_or (queue_at was k) i 0) first in
+    let there : k < length now.queues = let l = left.threads in omega arith in
+    record {
+      queue = ap (λ (p : PoolModel). queue_at p k) is ∙ (get_or-set_same now.queues k (drop 1 (queue_at now k)) [] there ∙ (ap (λ q. drop 1 q) left.queue ∙ drop_next (queue_at was k) i));
+      threads = ap (λ (p : PoolModel). length p.queues) is ∙ (length-set now.queues k (drop 1 (queue_at now k)) ∙ left.threads);
+    }
+
+-- the slot that is taken stood first
+pub taken_queue : (now new : PoolModel) (k s : ℕ) → k < length now.queues → first_of (queue_at now k) ≡ Some s → new ≡ taken k now → queue_at now k ≡ s ∷ queue_at new k
+taken_queue now new k s h first e =
+    let is : new ≡ taken_from k (s ∷ drop 1 (queue_at now k)) now = e ∙ taken_some now k s first in
+    first_is (queue_at now k) s first ∙ ap (λ q. s ∷ q) (sym (ap (λ (p : PoolModel). queue_at p k) is ∙ get_or-set_same now.queues k (drop 1 (queue_at now k)) [] h))
+
+-- one letter more is dropped
+pub one_dropped : (gives : ℕ → Letter) (q rest : List ℕ) (s : ℕ) (l : Letter) (before now : List BagStep) → q ≡ s ∷ rest → now ≡ before ++ bag.Discard l ∷ [] → l ≡ gives s →
+    now ++ map bag.Discard (map gives rest) ≡ before ++ map bag.Discard (map gives q)
+one_dropped gives q rest s l before now e is same =
+    ap (λ (ys : List BagStep). ys ++ map bag.Discard (map gives rest)) (is ∙ ap (λ x. before ++ bag.Discard x ∷ []) same)
+    ∙ (append_assoc before (bag.Discard (gives s) ∷ []) (map bag.Discard (map gives rest))
+    ∙ ap (λ q. before ++ map bag.Discard (map gives q)) (sym e))
+
+-- the place of a thread of the tile
+pub place_in : (v : TileView) (a : ℕ) → WellShaped v → is_here a v ≡ true → place_in_tile v.shape a < length v.pool.queues
+place_in v a shaped here =
+    let h = place_below v.shape a (and_parts _ _ here).0 in
+    let q = shaped.queues in
+    omega arith
+
+-- the letter of a slot, as it was read
+message_is : (free : Bool) (bytes read : List ℕ) → cond free None (Some bytes) ≡ Some read → read ≡ bytes
+message_is true bytes read e = cc e
+message_is false bytes read e = sym (ap (λ (o : Option (List ℕ)). unwrap_or o read) e)
+
+pub letter_read : (v : TileView) (a s : ℕ) (from : ℕ × ℕ) (bytes : List ℕ) → is_here a v ≡ true → sender_of s v ≡ Some from → message_at v.pool s ≡ Some bytes → letter from.0 from.1 a bytes ≡ letter_in v (place_in_tile v.shape a) s
+letter_read v a s from bytes here e f =
+    let parts = and_parts _ _ here in
+    let at : in_tile v.shape v.tile (place_in_tile v.shape a) ≡ a = ap (λ t. in_tile v.shape t (place_in_tile v.shape a)) (sym (eqb-true _ _ parts.1)) ∙ place_named v.shape a parts.0 in
+    let sent : (ℕ × ℕ) = ((sender_at v s).origin, (sender_at v s).number) in
+    let who : from ≡ sent = message_some (message_at v.pool s) sent from e in
+    let what : bytes ≡ (slot_at v.pool s).bytes = message_is (is_free (slot_at v.pool s)) (slot_at v.pool s).bytes bytes f in
+    ap (λ (q : ℕ × ℕ). letter q.0 q.1 a bytes) who
+    ∙ (ap (λ b. letter sent.0 sent.1 a b) what ∙ ap (λ b. letter sent.0 sent.1 b (slot_at v.pool s).bytes) (sym at))
+
+-- ---- a turn that is made step by step
+
+pub record TurnLeft (a n made : ℕ) (tile now : TileView) : Type 0 where
+  pub here : is_here a now ≡ true
+  pub shape : now.shape ≡ tile.shape
+  pub shaped : WellShaped now
+  pub left : is_some (steps_of (place_in_tile tile.shape a) (n - made) now) ≡ true
+  pub counts : made < n → can_count now ≡ true
+
+all_four : (a b c d : Bool) (o : Option TileView) → is_some (cond (a && b && c && d) o None) ≡ true → (a ≡ true) × (d ≡ true) × (is_some o ≡ true)
+all_four true true true true o e = (refl, refl, e)
+all_four true true true false o e = cc e
+all_four true true false d o e = cc e
+all_four true false c d o e = cc e
+all_four false b c d o e = cc e
+
+pub turn_start : (a n : ℕ) (tile now : TileView) → WellShaped tile → is_some (turn_row a n tile) ≡ true → now ≡ tile → TurnLeft a n 0 tile now
+turn_start a n tile now shaped e is =
+    let t = all_four (is_here a tile) _ _ (can_count tile) (steps_of (place_in_tile tile.shape a) n tile) e in
+    let all : n - 0 ≡ n = omega arith in
+    subst (λ (v : TileView). TurnLeft a n 0 tile v) (sym is) (record { here = t.0; shape = refl; shaped = shaped; left = ap (λ m. is_some (steps_of (place_in_tile tile.shape a) m tile)) all ∙ t.2; counts = λ h. t.1 })
+
+some_taken : {X : Type 0} (b : Bool) (o : Option X) → is_some (cond b o None) ≡ true → (b ≡ true) × (is_some o ≡ true)
+some_taken true o e = (refl, e)
+some_taken false o e = cc e
+
+-- one step of what is left
+first_step : (k m : ℕ) (v : TileView) → is_some (steps_of k (suc m) v) ≡ true → (can_step k v ≡ true) × (is_some (steps_of k m (stepped k v)) ≡ true)
+unfolding steps_of
+first_step k m v e = some_taken (can_step k v) (steps_of k m (stepped k v)) e
+
+left_now : (n made : ℕ) → made < n → n - made ≡ suc (n - (made + 1))
+left_now n made h = omega arith
+
+steps_left : (a n made : ℕ) (tile now : TileView) → TurnLeft a n made tile now → made < n → (can_step (place_in_tile tile.shape a) now ≡ true) × (is_some (steps_of (place_in_tile tile.shape a) (n - (made + 1)) (stepped (place_in_tile tile.shape a) now)) ≡ true)
+steps_left a n made tile now t h =
+    let k : ℕ = place_in_tile tile.shape a in
+    first_step k (n - (made + 1)) now (ap (λ m. is_some (steps_of k m now)) (sym (left_now n made h)) ∙ t.left)
+
+same_place : (a n made : ℕ) (tile now : TileView) → TurnLeft a n made tile now → place_in_tile now.shape a ≡ place_in_tile tile.shape a
+same_place a n made tile now t = ap (λ n. place_in_tile n a) t.shape
+
+pub turn_can : (a n made : ℕ) (tile now : TileView) → TurnLeft a n made tile now → made < n → can_step (place_in_tile now.shape a) now ≡ true
+turn_can a n made tile now t h = ap (λ k. can_step k now) (same_place a n made tile now t) ∙ (steps_left a n made tile now t h).0
+
+-- a call that makes at most one step makes it, where it can
+pub one_made : (k made : ℕ) (old new : TileView) → can_step k old ≡ true → StepsUpTo k 1 made old new → new ≡ stepped k old
+unfolding steps_of
+one_made k zero old new can s =
+    let same : old ≡ new = ap (λ (o : Option TileView). unwrap_or o new) s.steps in
+    let stops : can_step k old ≡ false = ap (can_step k) same ∙ s.stops (omega arith) in
+    let not : true ≡ false = sym can ∙ stops in
+    cc not
+one_made k (suc zero) old new can s =
+    let one : cond (can_step k old) (Some (stepped k old)) None ≡ Some new = s.steps in
+    let is : Some (stepped k old) ≡ Some new = sym (ap (λ b. cond b (Some (stepped k old)) None) can) ∙ one in
+    sym (ap (λ (o : Option TileView). unwrap_or o new) is)
+one_made k (suc (suc made)) old new can s = let few = s.few in absurd (omega arith)
+
+-- a thread that ended makes no step
+dead_stops : (k : ℕ) (v : TileView) (value : ℕ) → (thread_at v k).state ≡ state.Dead value → can_step k v ≡ true → ⊥
+dead_stops k v value e can =
+    let runs : runnable (sight_at v k) (thread_at v k).state ≡ true = (and_parts _ _ can).0 in
+    let not : true ≡ false = sym runs ∙ ap (runnable (sight_at v k)) e in
+    cc not
+
+kept_count : (k : ℕ) (v : TileView) (o : Op) → k < length v.threads → can_step k v ≡ true → (step_at_place k v).op ≡ o → can_step k (next v k o) ≡ true → (next v k o).dropped ≡ v.dropped
+kept_count k v op.None h can e more = refl
+kept_count k v (op.Send to bytes) h can e more = refl
+kept_count k v op.Hand h can e more = refl
+kept_count k v (op.Free slot) h can e more = refl
+kept_count k v (op.Idle vote) h can e more = refl
+kept_count k v (op.Trap why) h can e more = refl
+kept_count k v (op.Kill value) h can e more =
+    let is : thread_at (next v k (op.Kill value)) k ≡ (step_at_place k v).thread = get_or-set_same v.threads k (step_at_place k v).thread no_thread h in
+    let ended : (thread_at (next v k (op.Kill value)) k).state ≡ state.Dead value = ap (λ (t : Thread). t.state) is ∙ op_fits v k (op.Kill value) can e in
+    absurd (dead_stops k (next v k (op.Kill value)) value ended more)
+
+-- where a step follows, no letter was dropped
+counted_on : (k : ℕ) (v : TileView) → k < length v.threads → can_step k v ≡ true → can_step k (stepped k v) ≡ true → (stepped k v).dropped ≡ v.dropped
+counted_on k v h can more = kept_count k v (step_at_place k v).op h can refl more
+
+still_here : (a k : ℕ) (v : TileView) → is_here a v ≡ true → is_here a (stepped k v) ≡ true
+still_here a k v here =
+    ap (λ n. has_thread n a && tile_of a == (stepped k v).tile) (stepped_shape k v)
+    ∙ (ap (λ t. has_thread v.shape a && tile_of a == t) (acted_tile k (thread_at v k) (step_at_place k v).op (with_thread k (step_at_place k v).thread v)) ∙ here)
+
+pub turn_next : (a n made steps : ℕ) (tile now new : TileView) → TurnLeft a n made tile now → made < n → StepsUpTo (place_in_tile now.shape a) 1 steps now new → WellShaped new →
+    (new ≡ stepped (place_in_tile now.shape a) now) × TurnLeft a n (made + 1) tile new
+turn_next a n made steps tile now new t h s shaped =
+    let k : ℕ = place_in_tile tile.shape a in
+    let can = turn_can a n made tile now t h in
+    let is : new ≡ stepped (place_in_tile now.shape a) now = one_made (place_in_tile now.shape a) steps now new can s in
+    let at : new ≡ stepped k now = is ∙ ap (λ j. stepped j now) (same_place a n made tile now t) in
+    let left = steps_left a n made tile now t h in
+    let below : k < length now.threads =
+        let low = place_below now.shape a (and_parts _ _ t.here).0 in
+        let same = same_place a n made tile now t in
+        let count = t.shaped.threads in
+        omega arith in
+    (
+      is,
+      record {
+        here = ap (is_here a) at ∙ still_here a k now t.here;
+        shape = ap (λ (v : TileView). v.shape) at ∙ (stepped_shape k now ∙ t.shape);
+        shaped = shaped;
+        left = ap (λ v. is_some (steps_of k (n - (made + 1)) v)) at ∙ left.1;
+        counts = λ less.
+            let more = (first_step k (n - (made + 1 + 1)) (stepped k now) (ap (λ m. is_some (steps_of k m (stepped k now))) (sym (left_now n (made + 1) less)) ∙ left.1)).0 in
+            ap can_count at ∙ (ap (λ d. nat_lt d (2 ^ 63)) (counted_on k now below left.0 more) ∙ t.counts h);
+      },
+    )
+
+-- the steps that are left, one less
+turn_more : (a k m : ℕ) (v : TileView) → turn_steps a k (suc m) v ≡ thread_step a k v ++ turn_steps a k m (stepped k v)
+unfolding turn_steps
+turn_more a k m v = refl
+
+turn_none : (a k : ℕ) (v : TileView) → turn_steps a k 0 v ≡ []
+unfolding turn_steps
+turn_none a k v = refl
+
+pub turn_pushed : (a n made : ℕ) (tile now new : TileView) (before after : List BagStep) → TurnLeft a n made tile now → made < n → new ≡ stepped (place_in_tile now.shape a) now → after ≡ before ++ thread_step a (place_in_tile now.shape a) now →
+    after ++ turn_steps a (place_in_tile tile.shape a) (n - (made + 1)) new ≡ before ++ turn_steps a (place_in_tile tile.shape a) (n - made) now
+turn_pushed a n made tile now new before after t h is e =
+    let k : ℕ = place_in_tile tile.shape a in
+    let at = same_place a n made tile now t in
+    let m : ℕ = n - (made + 1) in
+    ap (λ (ys : List BagStep). ys ++ turn_steps a k m new) (e ∙ ap (λ j. before ++ thread_step a j now) at)
+    ∙ (ap (λ v. (before ++ thread_step a k now) ++ turn_steps a k m v) (is ∙ ap (λ j. stepped j now) at)
+    ∙ (append_assoc before (thread_step a k now) (turn_steps a k m (stepped k now))
+    ∙ ap (λ ys. before ++ ys) (sym (ap (λ j. turn_steps a k j now) (left_now n made h) ∙ turn_more a k m now))))
+
+pub turn_whole : (a k n : ℕ) (tile now : TileView) (before : List BagStep) → now ≡ tile → before ++ turn_steps a k (n - 0) now ≡ before ++ turn_steps a k n tile
+turn_whole a k n tile now before is = let all : n - 0 ≡ n = omega arith in ap (λ m. before ++ turn_steps a k m now) all ∙ ap (λ v. before ++ turn_steps a k n v) is
+
+pub turn_ends : (a k n made : ℕ) (now : TileView) (before all : List BagStep) → n ≤ made → before ++ turn_steps a k (n - made) now ≡ all → before ≡ all
+turn_ends a k n made now before all h e =
+    let none : n - made ≡ 0 = omega arith in
+    sym (ap (λ (ys : List BagStep). before ++ ys) (ap (λ j. turn_steps a k j now) none ∙ turn_none a k now) ∙ append-nil before) ∙ e
