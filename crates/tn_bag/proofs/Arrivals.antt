@@ -1,13 +1,11 @@
 -- What the calls that spell a history read of a machine whose next event is enabled.
 use Rattle.std.specs.Prelude.{MatchOption, option_and_then, option_copied}
 use Rattle.std.specs.List.{slice_get}
-use Rattle.std.proofs.Common.{ℕ, ◌+◌, ◌<◌, ◌≡◌, ◌++◌, Bool, Bor, true, false, List, [], ◌∷◌, length, get_or, drop, refl, sym, ◌∙◌, ap, subst, Option, Some, None, is_some, option_map, unwrap_or, append_assoc, append-nil}
-use Rattle.std.proofs.lemmas.List.{drop_more}
+use Rattle.std.proofs.Common.{ℕ, ◌≡◌, Bool, Bor, true, false, refl, sym, ◌∙◌, ap, Option, Some, None, is_some, option_map, unwrap_or}
 use Rattle.tn_base.specs.declared.event.Event.{Event}
 use Rattle.tn_base.specs.declared.event.Event.TheVariants as event
 use Rattle.tn_base.specs.declared.ids.PartId.{PartId}
 use Rattle.tn_base.specs.declared.message.Packet.{Packet}
-use Rattle.tn_base.specs.Does.{Does}
 use Rattle.tn_base.specs.Message.{has_packet}
 use Rattle.tn_base.specs.Parts.{kind_of}
 use Rattle.tn_stamp.specs.declared.entry.Crossing.TheVariants as crossing
@@ -17,10 +15,8 @@ use Rattle.tn_tile.proofs.Packets.{accepts}
 use Rattle.tn_rows.specs.Events.{after, carried, happened, happened_at, met_by, met_with, meets, meets_at, with_both}
 use Rattle.tn_rows.specs.PartView.{PartView, TileV, LinkV, AbsentV, tile_of}
 use Rattle.tn_rows.specs.Places.{leads_to, two_if}
-use Rattle.tn_rows.specs.Runs.{Run}
 use Rattle.tn_rows.specs.WorldView.{WorldView}
-use Rattle.tn_bag.specs.declared.steps.BagStep.{BagStep}
-use Rattle.tn_bag.specs.Steps.{arrival_steps, bag_of, delivery_steps, event_steps, steps_at}
+use Rattle.tn_bag.specs.Steps.{arrival_steps, delivery_steps, event_steps, steps_at}
 use Rattle.tn_bag.specs.Tiles.{no_reach}
 
 -- ---- a packet that arrives
@@ -65,7 +61,7 @@ arrives w l p v some at =
     let leads = leads_so w (event.Arrive l p) p.0 l.0 (leads_to p.0 (kind_of w.shape l.0)) some in
     let low = read_tile (slice_get w.parts p.0) v at in
     let both : is_some (meets_at (event.Arrive l p) (slice_get w.parts p.0) (slice_get w.parts l.0)) ≡ true =
-        some_of (with_both w p.0 l.0) (meets_at (event.Arrive l p) (slice_get w.parts p.0) (slice_get w.parts l.0)) (sym (ap (λ b. is_some (happened_at (event.Arrive l p) w (two_if b p.0 l.0))) leads) ∙ some) in
+    some_of (with_both w p.0 l.0) (meets_at (event.Arrive l p) (slice_get w.parts p.0) (slice_get w.parts l.0)) (sym (ap (λ b. is_some (happened_at (event.Arrive l p) w (two_if b p.0 l.0))) leads) ∙ some) in
     record { leads = leads; low = low; meets = sym (ap (λ o. is_some (meets_at (event.Arrive l p) o (slice_get w.parts l.0))) low) ∙ both }
 
 pub front_fits : (w : WorldView) (l p : PartId) (v : TileView) (r : Option (Bor Packet)) → Arrives w l p v → option_copied r ≡ option_and_then carried (slice_get w.parts l.0) → MatchOption r (Unit {0}) (λ k. has_packet v.shape k.now ≡ true)

@@ -38,7 +38,6 @@ use Rattle.tn_bag.proofs.Weights.{buffers_w, crossing_w, link_w, packet_w}
 
 -- ---- rows of both parts
 
-
 mapped : {A B : Type 0} (f : A → B) (o : Option A) (y : B) → option_map f o ≡ Some y → (x : A) × (o ≡ Some x) × (f x ≡ y)
 mapped f None y e = cc e
 mapped f (Some x) y e = (x, refl, ap (λ o. unwrap_or o y) e)

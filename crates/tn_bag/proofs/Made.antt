@@ -1,8 +1,7 @@
 -- What the calls that list the standing letters read.
-use Rattle.std.proofs.Common.{ℕ, ◌≡◌, ◌<◌, ◌+◌, ◌++◌, ◌==◌, [], Bool, Bor, true, false, cond, List, zero, suc, refl, sym, ap, subst, ◌∙◌, IsTrue, Option, Some, None, option_map, MatchOption, append_assoc}
+use Rattle.std.proofs.Common.{ℕ, ◌≡◌, ◌<◌, ◌+◌, ◌==◌, [], Bool, Bor, true, false, cond, List, zero, suc, refl, sym, ap, subst, ◌∙◌, IsTrue, Option, Some, None, option_map, MatchOption}
 use Rattle.std.specs.Prelude.{option_copied}
 use Rattle.std.proofs.lemmas.Bool.{and_from, eq-eqb}
-use Rattle.std.proofs.lemmas.List.{append-nil}
 use Rattle.tn_base.specs.declared.message.Packet.{Packet}
 use Rattle.tn_base.specs.declared.shape.ShapeNumbers.{ShapeNumbers}
 use Rattle.tn_base.specs.Address.{has_thread, in_tile, place_in_tile, tile_of, tile_threads}
@@ -38,9 +37,6 @@ named_here v k a limits w h e =
 pub packet_read : (n : ShapeNumbers) (r : Option (Bor Packet)) (o : Option Packet) → option_copied r ≡ o → MatchOption o (Unit {0}) (IsPacket n) → MatchOption r (Unit {0}) (λ p. IsTrue (has_packet n p.now))
 packet_read n None o e fits = tt
 packet_read n (Some p) o e fits = subst (λ x. MatchOption x (Unit {0}) (IsPacket n)) (sym e) fits
-
-pub five_more : {A : Type 0} (all a b c d e : List A) → ((((all ++ a) ++ b) ++ c) ++ d) ++ e ≡ all ++ (a ++ (b ++ (c ++ (d ++ (e ++ [])))))
-five_more all a b c d e = simp (append_assoc, append-nil)
 
 -- the same without the limits: the thread is there, as the call that named it says
 pub here_read : (v : TileView) (n : ShapeNumbers) (tile k a : ℕ) → WellShaped v → n ≡ v.shape → tile ≡ v.tile → k < tile_threads v.shape → a ≡ in_tile n tile k → IsTrue (has_thread n a) → WithinLimits v.shape → IsTrue (is_here a v) × (place_in_tile v.shape a ≡ k) × (a ≡ in_tile v.shape v.tile k)

@@ -1,10 +1,10 @@
 -- What the calls that spell a history, and that list the letters on links, read.
-use Rattle.std.specs.List.{filter, slice_get}
+use Rattle.std.specs.List.{slice_get}
 use Rattle.std.specs.Int.{bit_at}
 use Rattle.std.proofs.lemmas.Nat.Bits.{bit_at-zero}
 use Rattle.std.proofs.Common.{◌⊎◌, inl, inr, ◌&&◌, ℕ, ◌+◌, ◌-◌, ◌<◌, ◌≤◌, ◌^◌, nat_lt, ◌≡◌, ◌==◌, ◌++◌, Bool, true, false, cond, List, [], ◌∷◌, length, get_or, map, drop, zero, suc, refl, sym, ◌∙◌, ap, subst, arith, Option, Some, None, is_some, unwrap_or, append_assoc, length-set}
 use Rattle.std.proofs.lemmas.Bool.{and_parts, eqb-true}
-use Rattle.std.proofs.lemmas.List.{append-nil, at_drop_more, get_or-set_same}
+use Rattle.std.proofs.lemmas.List.{append-nil, get_or-set_same}
 use Rattle.tn_base.specs.declared.message.Letter.{Letter}
 use Rattle.tn_base.specs.declared.op.Op.{Op}
 use Rattle.tn_base.specs.declared.op.Op.TheVariants as op
@@ -32,7 +32,7 @@ use Rattle.tn_tile.proofs.Steps.{stepped_shape}
 use Rattle.tn_bag.specs.declared.place.Place.{Place}
 use Rattle.tn_bag.specs.declared.steps.BagStep.{BagStep}
 use Rattle.tn_bag.specs.declared.steps.BagStep.TheVariants as bag
-use Rattle.tn_bag.specs.Letters.{letter, only_if}
+use Rattle.tn_bag.specs.Letters.{letter}
 use Rattle.tn_bag.specs.Standing.{crossing_at}
 use Rattle.tn_bag.specs.Steps.{thread_step, turn_steps}
 use Rattle.tn_bag.specs.Tiles.{letter_in, no_reach, sender_at}
@@ -43,19 +43,6 @@ use Rattle.tn_bag.proofs.Simulate.{next, op_fits}
 -- the letters at each place of a link
 abbrev pub crossings : ShapeNumbers → ℕ → LinkView → ℕ → List (Place × Letter)
 crossings n p v i = crossing_at n no_reach p i (slice_get v.packets i)
-
--- ---- letters that are dropped
-
-pub dead_more : (test : Letter → Bool) (xs : List Letter) (i : ℕ) (d : Letter) (before now : List BagStep) → i < length xs → now ≡ before ++ map bag.Discard (only_if (test (get_or xs i d)) (get_or xs i d)) →
-    now ++ map bag.Discard (filter test (drop (i + 1) xs)) ≡ before ++ map bag.Discard (filter test (drop i xs))
-dead_more test xs i d before now h e =
-    ap (λ (ys : List BagStep). ys ++ map bag.Discard (filter test (drop (i + 1) xs))) e
-    ∙ (by (test (get_or xs i d)) (get_or xs i d) (filter test (drop (i + 1) xs))
-    ∙ sym (at_drop_more (λ ys. before ++ map bag.Discard (filter test ys)) xs i d h))
-  where
-    by : (b : Bool) (x : Letter) (rest : List Letter) → (before ++ map bag.Discard (only_if b x)) ++ map bag.Discard rest ≡ before ++ map bag.Discard (cond b (x ∷ rest) rest)
-    by true x rest = append_assoc before (bag.Discard x ∷ []) (map bag.Discard rest)
-    by false x rest = append_assoc before [] (map bag.Discard rest)
 
 -- ---- a queue that is taken slot by slot
 
@@ -255,11 +242,10 @@ turn_next a n made steps tile now new t h s shaped =
     let at : new ≡ stepped k now = is ∙ ap (λ j. stepped j now) (same_place a n made tile now t) in
     let left = steps_left a n made tile now t h in
     let below : k < length now.threads =
-        let low = place_below now.shape a (and_parts _ _ t.here).0 in
-        let same = same_place a n made tile now t in
-        let count = t.shaped.threads in
-        omega arith in
-    (
+    let low = place_below now.shape a (and_parts _ _ t.here).0 in
+    let same = same_place a n made tile now t in
+    let count = t.shaped.threads in
+    omega arith in (
       is,
       record {
         here = ap (is_here a) at ∙ still_here a k now t.here;

@@ -136,11 +136,7 @@ fn push_delivery(
 }
 
 /// Those of some letters whose receivers have ended.
-fn push_dead(
-    all: &mut Vec<BagStep>,
-    tile: &Tile,
-    letters: &[Letter],
-) -> Result<(), AllocError>
+fn push_dead(all: &mut Vec<BagStep>, tile: &Tile, letters: &[Letter]) -> Result<(), AllocError>
     ensures { OnOk result (all.new.items ≡ all.old.items ++ map bag.Discard (filter (is_for_dead tile.now) letters.now)) }
 {
     for letter in letters {
@@ -150,11 +146,7 @@ fn push_dead(
 }
 
 /// A letter, if its receiver has ended.
-fn push_if_dead(
-    all: &mut Vec<BagStep>,
-    tile: &Tile,
-    letter: &Letter,
-) -> Result<(), AllocError>
+fn push_if_dead(all: &mut Vec<BagStep>, tile: &Tile, letter: &Letter) -> Result<(), AllocError>
     ensures { OnOk result (all.new.items ≡ all.old.items ++ map bag.Discard (only_if (is_for_dead tile.now letter.now) letter.now)) }
 {
     if is_for_dead(tile, letter) {

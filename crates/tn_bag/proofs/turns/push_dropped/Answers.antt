@@ -40,10 +40,9 @@ loop-taken-preserved c =
     let after : c.take.new.self ≡ taken k c.loop-taken.pool = c.take.ensures.after ∙ ap (λ j. taken j c.loop-taken.pool) place in
     let below = place_in v c.args.t.0 c.kept.ensures c.requires in
     let here : k < length c.loop-taken.pool.queues = subst (λ n. k < n) (sym c.loop-taken.invariant.0.threads) below in
-    let first : first_of (queue_at c.loop-taken.pool k) ≡ Some c.unwrap-slot.result = sym (c.take.ensures.first ∙ ap (λ j. first_of (queue_at c.loop-taken.pool j)) place) ∙ c.unwrap-slot.ensures in
-    (
+    let first : first_of (queue_at c.loop-taken.pool k) ≡ Some c.unwrap-slot.result = sym (c.take.ensures.first ∙ ap (λ j. first_of (queue_at c.loop-taken.pool j)) place) ∙ c.unwrap-slot.ensures in (
       next_left v.pool c.loop-taken.pool c.take.new.self k c.loop-taken._taken c.loop-taken.invariant.0 below within after,
       one_dropped (letter_in v k) (queue_at c.loop-taken.pool k) (queue_at c.take.new.self k) c.unwrap-slot.result c.letter_in-letter.result c.loop-taken.all.items c.push.new.self.items
-      (taken_queue c.loop-taken.pool c.take.new.self k c.unwrap-slot.result here first after) c.in_ok-push.ensures.items c.letter_in-letter.ensures
-      ∙ c.loop-taken.invariant.1,
+          (taken_queue c.loop-taken.pool c.take.new.self k c.unwrap-slot.result here first after) c.in_ok-push.ensures.items c.letter_in-letter.ensures
+          ∙ c.loop-taken.invariant.1,
     )

@@ -15,11 +15,10 @@ push_step-requires-clause-can c = turn_can c.args.t.0 c.args.n c.loop-made._made
 pub loop-made-preserved : goal.loop-made-preserved
 loop-made-preserved c =
     let less : c.loop-made._made < c.args.n = search rules in
-    let next = turn_next c.args.t.0 c.args.n c.loop-made._made c.turn_up_to-steps.result c.args.tile.now c.loop-made.current c.turn_up_to-steps.new.self c.loop-made.invariant.0 less c.turn_up_to-steps.ensures c.kept-in-loop-made.ensures in
-    (
+    let next = turn_next c.args.t.0 c.args.n c.loop-made._made c.turn_up_to-steps.result c.args.tile.now c.loop-made.current c.turn_up_to-steps.new.self c.loop-made.invariant.0 less c.turn_up_to-steps.ensures c.kept-in-loop-made.ensures in (
       next.1,
       turn_pushed c.args.t.0 c.args.n c.loop-made._made c.args.tile.now c.loop-made.current c.turn_up_to-steps.new.self c.loop-made.all.items c.push_step.new.all.items c.loop-made.invariant.0 less next.0 c.in_ok-push_step.ensures
-      ∙ c.loop-made.invariant.1,
+          ∙ c.loop-made.invariant.1,
     )
 
 pub returns : goal.returns
