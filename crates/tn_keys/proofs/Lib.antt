@@ -1,0 +1,10 @@
+pub mod Accepting
+pub mod BeatLaw
+pub mod Beats
+pub mod BytesBack
+pub mod Masks
+pub mod Reaching
+pub mod Reading
+pub mod RoundTrip
+pub mod Widths
+pub mod Writing

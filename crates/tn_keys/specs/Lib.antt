@@ -1,0 +1,9 @@
+pub mod Accepted
+pub mod Beat
+pub mod Copies
+pub mod Key
+pub mod Reach
+pub mod Read
+pub mod Record
+pub mod Tables
+pub mod Written

@@ -1,0 +1,5 @@
+pub mod Boards
+pub mod Finding
+pub mod Rounding
+pub mod Runs
+pub mod Stops

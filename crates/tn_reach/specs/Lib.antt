@@ -1,0 +1,4 @@
+pub mod Check
+pub mod Kinds
+pub mod Marks
+pub mod Running

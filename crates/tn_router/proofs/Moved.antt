@@ -1,0 +1,139 @@
+-- A move leaves in process what fits there, and sends on what fits its way.
+use Rattle.std.proofs.Common.{ℕ, ◌≡◌, ◌+◌, ◌==◌, ◌||◌, true, false, [], get_or, length, refl, sym, ap, subst, inl, inr, leb, ltb, Option, Some, None, MatchOption, is_some, option_map}
+use Rattle.std.specs.Prelude.{not, slice_get}
+use Rattle.std.proofs.lemmas.Bool.{and_parts, cond_both, or_left}
+use Rattle.tn_base.specs.declared.ids.Board.{Board}
+use Rattle.tn_base.specs.declared.message.Dest.{Dest}
+use Rattle.tn_base.specs.declared.message.Dest.TheVariants as dest
+use Rattle.tn_base.specs.declared.message.Packet.{Packet}
+use Rattle.tn_base.specs.declared.port.Port.{Port}
+use Rattle.tn_base.specs.declared.port.Port.TheVariants as port
+use Rattle.tn_base.specs.declared.shape.ShapeNumbers.{ShapeNumbers}
+use Rattle.tn_base.specs.Message.{has_dest, has_packet, slot_bytes}
+use Rattle.tn_keys.specs.declared.record.RouteRec.{RouteRec}
+use Rattle.tn_keys.specs.declared.record.RouteRec.TheVariants.{Urm1, Urm2, Rr, Mrm, Ind}
+use Rattle.tn_keys.specs.Copies.{keyed, neighbour, tile_address}
+use Rattle.tn_keys.specs.Key.{key_first}
+use Rattle.tn_keys.specs.Tables.{Table, is_bad_key}
+use Rattle.tn_router.specs.declared.moves.Move.{Move}
+use Rattle.tn_router.specs.declared.moves.Sent.{Sent}
+use Rattle.tn_router.specs.declared.work.Work.{Work}
+use Rattle.tn_router.specs.Kept.{FitsWay, FitsWork, MoveFits, WellShaped, is_keyed, is_placed, is_record_of, leads_on}
+use Rattle.tn_router.specs.Moves.{behind, copy_by, key_move, move_of, move_to, record_move, sent_if, way_of, whole_move}
+use Rattle.tn_router.specs.Places.{work_at}
+use Rattle.tn_router.specs.Rest.{at_beat, beats_from, entered, first_full, from_beat, next_record, next_work, or_zero, rest_by, rest_to, started, started_to}
+use Rattle.tn_router.specs.RouterView.{RouterView}
+use Rattle.tn_router.proofs.Firsts.{placed_cases}
+use Rattle.tn_router.proofs.Placed.{entered_placed, next_placed}
+
+-- what is sent on fits its way
+abbrev pub SentFits : ShapeNumbers → Option Sent → Type 0
+SentFits n o = MatchOption o (Unit {0}) (λ s. FitsWay n s.way s.packet)
+
+abbrev pub WorkFits : ShapeNumbers → Table → Option Work → Type 0
+WorkFits n table o = MatchOption o (Unit {0}) (FitsWork n table)
+
+sent_fits : (n : ShapeNumbers) (way : Port) (p : Packet) → (not (is_keyed p.dest) || leads_on way) ≡ true → SentFits n (sent_if n way p)
+sent_fits n way p h = cond_both (has_packet n p) (Some (record { way = way; packet = p })) None (SentFits n) (λ e. (e, h)) (λ _. tt)
+
+way_leads : (dir : ℕ) → leads_on (way_of dir) ≡ true
+way_leads dir =
+    cond_both (dir == 0) _ _ (λ w. leads_on w ≡ true) (λ _. refl)
+    (λ _. cond_both (dir == 1) _ _ (λ w. leads_on w ≡ true) (λ _. refl)
+    (λ _. cond_both (dir == 2) _ _ (λ w. leads_on w ≡ true) (λ _. refl) (λ _. refl)))
+
+copy_fits : (n : ShapeNumbers) (b : Board) (p : Packet) (r : RouteRec) → SentFits n (copy_by n b p r)
+copy_fits n b p (Urm1 tile thread key) = sent_fits n port.Down (record p { dest = dest.Thread (record { 0 = tile_address b tile + thread }); bytes = keyed 4 key p.bytes }) refl
+copy_fits n b p (Urm2 tile thread key) = sent_fits n port.Down (record p { dest = dest.Thread (record { 0 = tile_address b tile + thread }); bytes = keyed 8 key p.bytes }) refl
+copy_fits n b p (Rr dir key) = cond_both (is_some (neighbour n dir b)) _ _ (SentFits n) (λ _. sent_fits n (way_of dir) (record p { dest = dest.Key key }) (way_leads dir)) (λ _. tt)
+copy_fits n b p (Mrm tile key mask) = sent_fits n port.Down (record p { dest = dest.Mask (record { 0 = tile_address b tile }) mask; bytes = keyed 2 key p.bytes }) refl
+copy_fits n b p (Ind key) = tt
+
+-- the packet of what stays in process is one of the machine, if its packet was
+has_beat : (n : ShapeNumbers) (p : Packet) (o : Option ℕ) → has_packet n p ≡ true → MatchOption (option_map (at_beat p) o) (Unit {0}) (λ w. has_packet n w.packet ≡ true)
+has_beat n p None h = tt
+has_beat n p (Some j) h = h
+
+has_next : (n : ShapeNumbers) (table : Table) (key : ℕ) (w : Work) → has_packet n w.packet ≡ true → MatchOption (next_work table key w) (Unit {0}) (λ x. has_packet n x.packet ≡ true)
+has_next n table key w h =
+    cond_both (ltb (w.at + 1) (length (get_or table w.beat []))) (Some (record w { at = w.at + 1 })) (from_beat table key (w.beat + 1) w.packet) (λ o. MatchOption o (Unit {0}) (λ x. has_packet n x.packet ≡ true))
+    (λ _. h) (λ _. has_beat n w.packet (first_full (w.beat + 1) (beats_from table key (w.beat + 1))) h)
+
+has_entered : (n : ShapeNumbers) (table : Table) (p : Packet) (key : ℕ) → has_packet n p ≡ true → MatchOption (entered table p key) (Unit {0}) (λ x. has_packet n x.packet ≡ true)
+has_entered n table p key h =
+    let fits : has_packet n (record p { dest = dest.Key key }) ≡ true = (and_parts (has_dest n p.dest) (leb (length p.bytes) (slot_bytes n)) h).1 in
+    cond_both (is_bad_key (length table) key) (Some (at_beat (record p { dest = dest.Key key }) 0)) (from_beat table key (key_first key) (record p { dest = dest.Key key })) (λ o. MatchOption o (Unit {0}) (λ x. has_packet n x.packet ≡ true))
+    (λ _. fits) (λ _. has_beat n (record p { dest = dest.Key key }) (first_full (key_first key) (beats_from table key (key_first key))) fits)
+
+both_fit : (n : ShapeNumbers) (table : Table) (o : Option Work) → MatchOption o (Unit {0}) (λ x. has_packet n x.packet ≡ true) → MatchOption o (Unit {0}) (λ x. is_placed table x ≡ true) → WorkFits n table o
+both_fit n table None h p = tt
+both_fit n table (Some w) h p = (h, p)
+
+next_fits : (n : ShapeNumbers) (table : Table) (key : ℕ) (w : Work) → w.packet.dest ≡ dest.Key key → has_packet n w.packet ≡ true → is_record_of table key w.beat w.at ≡ true → WorkFits n table (next_work table key w)
+next_fits n table key w e h is = both_fit n table (next_work table key w) (has_next n table key w h) (next_placed table key w e is)
+
+behind_fits : (n : ShapeNumbers) (table : Table) (key : ℕ) (w : Work) (r : RouteRec) → w.packet.dest ≡ dest.Key key → has_packet n w.packet ≡ true → is_record_of table key w.beat w.at ≡ true → WorkFits n table (behind table key w r)
+behind_fits n table key w (Urm1 tile thread local) e h is = next_fits n table key w e h is
+behind_fits n table key w (Urm2 tile thread local) e h is = next_fits n table key w e h is
+behind_fits n table key w (Rr dir onward) e h is = next_fits n table key w e h is
+behind_fits n table key w (Mrm tile local mask) e h is = next_fits n table key w e h is
+behind_fits n table key w (Ind onward) e h is = both_fit n table (entered table w.packet onward) (has_entered n table w.packet onward h) (entered_placed table w.packet onward)
+
+-- a move fits a router
+abbrev MoveFitsIn : ShapeNumbers → Table → Move → Type 0
+MoveFitsIn n table m = WorkFits n table m.work × SentFits n m.sent
+
+whole_fits : (n : ShapeNumbers) (b : Board) (table : Table) (side : Port) (p : Packet) → has_packet n p ≡ true → is_keyed p.dest ≡ false → MoveFitsIn n table (whole_move b side p)
+whole_fits n b table side p h e = (tt, (h, or_left (not (is_keyed p.dest)) _ (ap not e)))
+
+-- a record that comes is one of the key's
+pub comes : (table : Table) (key : ℕ) (w : Work) (r : RouteRec) → w.packet.dest ≡ dest.Key key → is_placed table w ≡ true → slice_get (rest_by table w key) 0 ≡ Some r → is_record_of table key w.beat w.at ≡ true
+comes table key w r e placed is = elim (placed_cases table key w e placed) [
+  | inl here ↦ here
+  | inr none ↦
+      let no : slice_get (rest_by table w key) 0 ≡ None = ap (λ rs. slice_get rs 0) none.0 in
+      cc (no, is)
+]
+
+record_fits : (n : ShapeNumbers) (b : Board) (table : Table) (side : Port) (key : ℕ) (w : Work) (o : Option RouteRec) → w.packet.dest ≡ dest.Key key → FitsWork n table w → slice_get (rest_by table w key) 0 ≡ o → MoveFitsIn n table (record_move n b table side key w o)
+record_fits n b table side key w None e f is = (tt, tt)
+record_fits n b table side key w (Some r) e f is = (behind_fits n table key w r e f.0 (comes table key w r e f.1 is), copy_fits n b w.packet r)
+
+key_fits : (n : ShapeNumbers) (b : Board) (table : Table) (side : Port) (key : ℕ) (w : Work) → w.packet.dest ≡ dest.Key key → FitsWork n table w → MoveFitsIn n table (key_move n b table side key w)
+key_fits n b table side key w e f =
+    cond_both (is_bad_key (length table) key) _ _ (MoveFitsIn n table) (λ _. (f, tt))
+    (λ _. record_fits n b table side key w (next_record table w) e f (sym (ap (λ d. slice_get (rest_to table w d) 0) e)))
+
+move_fits_to : (n : ShapeNumbers) (b : Board) (table : Table) (side : Port) (w : Work) (d : Dest) → w.packet.dest ≡ d → FitsWork n table w → MoveFitsIn n table (move_to n b table side w d)
+move_fits_to n b table side w (dest.Thread t) e f = whole_fits n b table side w.packet f.0 (ap is_keyed e)
+move_fits_to n b table side w dest.Host e f = whole_fits n b table side w.packet f.0 (ap is_keyed e)
+move_fits_to n b table side w (dest.Mask tile mask) e f = whole_fits n b table side w.packet f.0 (ap is_keyed e)
+move_fits_to n b table side w (dest.Key key) e f = key_fits n b table side key w e f
+
+pub move_fits : (n : ShapeNumbers) (b : Board) (table : Table) (side : Port) (w : Work) → FitsWork n table w → WorkFits n table (move_of n b table side w).work × SentFits n (move_of n b table side w).sent
+move_fits n b table side w f = move_fits_to n b table side w w.packet.dest refl f
+
+-- the packet of a place fits, as each does
+pub work_fits : (v : RouterView) (side : Port) (w : Work) → WellShaped v → work_at side v.process ≡ Some w → FitsWork v.shape v.beats w
+work_fits v side w s e = subst (WorkFits v.shape v.beats) e (s.works side)
+
+pub placed_fits : (v : RouterView) (side : Port) (w : Work) (m : Move) → WellShaped v → work_at side v.process ≡ Some w → m ≡ move_of v.shape v.board v.beats side w → MoveFits v m
+placed_fits v side w m s e is =
+    let f = move_fits v.shape v.board v.beats side w (work_fits v side w s e) in
+    subst (MoveFits v) (sym is) (record { work = f.0; sent = f.1 })
+
+-- a packet that comes into process is the one that came
+started_with : (n : ShapeNumbers) (p : Packet) (o : Option ℕ) → has_packet n p ≡ true → has_packet n (or_zero p (option_map (at_beat p) o)).packet ≡ true
+started_with n p None h = h
+started_with n p (Some j) h = h
+
+started_has : (n : ShapeNumbers) (table : Table) (p : Packet) (d : Dest) → has_packet n p ≡ true → has_packet n (started_to table p d).packet ≡ true
+started_has n table p (dest.Thread t) h = h
+started_has n table p dest.Host h = h
+started_has n table p (dest.Mask tile mask) h = h
+started_has n table p (dest.Key key) h =
+    cond_both (is_bad_key (length table) key) (at_beat p 0) (or_zero p (from_beat table key (key_first key) p)) (λ w. has_packet n w.packet ≡ true)
+    (λ _. h) (λ _. started_with n p (first_full (key_first key) (beats_from table key (key_first key))) h)
+
+pub has_started : (n : ShapeNumbers) (table : Table) (p : Packet) → has_packet n p ≡ true → has_packet n (started table p).packet ≡ true
+has_started n table p h = started_has n table p p.dest h

@@ -1,0 +1,7 @@
+pub mod Kept
+pub mod Left
+pub mod Moves
+pub mod Places
+pub mod Rest
+pub mod RouterView
+pub mod Rows
