@@ -1,6 +1,6 @@
 -- A Route loses no copy and makes none twice.
-use Rattle.std.proofs.Common.{ℕ, zero, suc, ◌≡◌, ◌≤◌, ◌+◌, ◌==◌, ◌++◌, Bool, true, false, cond, List, [], ◌∷◌, drop, get_or, length, refl, sym, ap, subst, ◌∙◌, arith, inl, inr, leb, Option, Some, None, MatchOption, is_some}
-use Rattle.std.specs.Prelude.{not, slice_get}
+use Rattle.std.proofs.Common.{ℕ, ◌≡◌, ◌+◌, ◌==◌, ◌++◌, true, false, cond, List, [], ◌∷◌, drop, get_or, length, refl, sym, ap, subst, ◌∙◌, arith, inl, inr, leb, Option, Some, None, is_some}
+use Rattle.std.specs.Prelude.{slice_get}
 use Rattle.std.proofs.lemmas.Bool.{and_from, and_parts, cases_Bool, cond_both, not_from_false}
 use Rattle.std.proofs.lemmas.List.{append-nil}
 use Rattle.tn_base.specs.declared.ids.Board.{Board}
@@ -10,7 +10,6 @@ use Rattle.tn_base.specs.declared.message.Packet.{Packet}
 use Rattle.tn_base.specs.declared.port.Port.{Port}
 use Rattle.tn_base.specs.declared.port.Port.TheVariants as port
 use Rattle.tn_base.specs.declared.shape.ShapeNumbers.{ShapeNumbers}
-use Rattle.tn_base.specs.Address.{has_tile}
 use Rattle.tn_base.specs.Mask.{names_threads}
 use Rattle.tn_base.specs.Message.{has_dest, has_packet, slot_bytes}
 use Rattle.tn_base.specs.Shape.{WithinLimits}
@@ -21,13 +20,12 @@ use Rattle.tn_keys.specs.Copies.{Copy, copies_of, keyed, led, neighbour, onto, t
 use Rattle.tn_keys.specs.Reach.{Reach, reach, walk}
 use Rattle.tn_keys.specs.Tables.{HasBoard, Table, is_bad_key, records_at, table_of}
 use Rattle.tn_keys.proofs.Accepting.{reach_is}
-use Rattle.tn_router.specs.declared.moves.Move.{Move}
 use Rattle.tn_router.specs.declared.moves.Sent.{Sent}
 use Rattle.tn_router.specs.declared.work.Work.{Work}
-use Rattle.tn_router.specs.Kept.{FitsWork, is_keyed, is_placed}
-use Rattle.tn_router.specs.Left.{all_left, all_sent, board_on, copies_left, copies_out, copies_to, reached}
-use Rattle.tn_router.specs.Moves.{behind, copy_by, key_move, move_of, move_to, record_move, sent_if, way_of, whole_move}
-use Rattle.tn_router.specs.Rest.{at_beat, entered, next_record, next_work, rest_by, rest_of, rest_to, started, started_by, started_to}
+use Rattle.tn_router.specs.Kept.{FitsWork, is_keyed}
+use Rattle.tn_router.specs.Left.{KeepsCopies, all_left, all_sent, board_on, copies_left, copies_out, copies_to, reached}
+use Rattle.tn_router.specs.Moves.{behind, copy_by, key_move, move_of, move_to, record_move, sent_if, way_of}
+use Rattle.tn_router.specs.Rest.{at_beat, entered, next_record, next_work, rest_by, rest_to, started, started_by, started_to}
 use Rattle.tn_router.proofs.Firsts.{IsRecord, record_facts, rest_record}
 use Rattle.tn_router.proofs.Moved.{comes}
 use Rattle.tn_router.proofs.Resting.{Rests, rest_entered, rest_next, rest_started, started_packet}
@@ -137,20 +135,16 @@ whole_same f g bytes dest.Host h = refl
 whole_same f g bytes (dest.Mask tile mask) h = sym (append-nil (copies_to g bytes (dest.Mask tile mask)))
 whole_same f g bytes (dest.Key key) h = cc h
 
--- a move whose key is not bad conserves the copies still to come
-abbrev KeepsAll : Reach → ShapeNumbers → Board → Table → Work → Move → Type 0
-KeepsAll on n b table w m = m.bad ≡ None → Conserves on n b table (copies_left on n b table w) m.sent m.work
-
-key_conserves : (on : Reach) (n : ShapeNumbers) (b : Board) (table : Table) (side : Port) (key : ℕ) (w : Work) → Sound on n b table → FitsWork n table w → w.packet.dest ≡ dest.Key key → KeepsAll on n b table w (key_move n b table side key w)
+key_conserves : (on : Reach) (n : ShapeNumbers) (b : Board) (table : Table) (side : Port) (key : ℕ) (w : Work) → Sound on n b table → FitsWork n table w → w.packet.dest ≡ dest.Key key → KeepsCopies on n b table w (key_move n b table side key w)
 key_conserves on n b table side key w s f e =
-    cond_both (is_bad_key (length table) key) (record { side = side; sent = None; work = Some w; bad = Some key }) (record_move n b table side key w (next_record table w)) (KeepsAll on n b table w)
-    (λ _ none. cc none)
-    (λ _ _. record_conserves on n b table side key w (next_record table w) s f e (sym (ap (λ d. slice_get (rest_to table w d) 0) e)))
+    cond_both (is_bad_key (length table) key) (record { side = side; sent = None; work = Some w; bad = Some key }) (record_move n b table side key w (next_record table w)) (KeepsCopies on n b table w)
+    (λ _. refl)
+    (λ _. record_conserves on n b table side key w (next_record table w) s f e (sym (ap (λ d. slice_get (rest_to table w d) 0) e)))
 
-conserves_to : (on : Reach) (n : ShapeNumbers) (b : Board) (table : Table) (side : Port) (w : Work) (d : Dest) → Sound on n b table → FitsWork n table w → w.packet.dest ≡ d → KeepsAll on n b table w (move_to n b table side w d)
-conserves_to on n b table side w (dest.Thread t) s f e = λ _. whole_same _ _ w.packet.bytes w.packet.dest (ap is_keyed e)
-conserves_to on n b table side w dest.Host s f e = λ _. whole_same _ _ w.packet.bytes w.packet.dest (ap is_keyed e)
-conserves_to on n b table side w (dest.Mask tile mask) s f e = λ _. whole_same _ _ w.packet.bytes w.packet.dest (ap is_keyed e)
+conserves_to : (on : Reach) (n : ShapeNumbers) (b : Board) (table : Table) (side : Port) (w : Work) (d : Dest) → Sound on n b table → FitsWork n table w → w.packet.dest ≡ d → KeepsCopies on n b table w (move_to n b table side w d)
+conserves_to on n b table side w (dest.Thread t) s f e = whole_same _ _ w.packet.bytes w.packet.dest (ap is_keyed e)
+conserves_to on n b table side w dest.Host s f e = whole_same _ _ w.packet.bytes w.packet.dest (ap is_keyed e)
+conserves_to on n b table side w (dest.Mask tile mask) s f e = whole_same _ _ w.packet.bytes w.packet.dest (ap is_keyed e)
 conserves_to on n b table side w (dest.Key key) s f e = key_conserves on n b table side key w s f e
 
 sound : (n : ShapeNumbers) (ts : List Table) (b : Board) → WithinLimits n → Accepted n ts → HasBoard n b → Sound (reach n ts) n b (table_of n ts b)
@@ -161,9 +155,8 @@ sound n ts b l a h = record {
   there = λ i at r e. leads_there n ts b i at r a h e;
 }
 
-pub route_conserves : (n : ShapeNumbers) (ts : List Table) (b : Board) (side : Port) (w : Work) → WithinLimits n → Accepted n ts → HasBoard n b → FitsWork n (table_of n ts b) w → (move_of n b (table_of n ts b) side w).bad ≡ None
-    → copies_left (reach n ts) n b (table_of n ts b) w ≡ all_sent (reach n ts) n b (move_of n b (table_of n ts b) side w).sent ++ all_left (reach n ts) n b (table_of n ts b) (move_of n b (table_of n ts b) side w).work
-route_conserves n ts b side w l a h f e = conserves_to (reach n ts) n b (table_of n ts b) side w w.packet.dest (sound n ts b l a h) f refl e
+pub route_conserves : (n : ShapeNumbers) (ts : List Table) (b : Board) (side : Port) (w : Work) → WithinLimits n → Accepted n ts → HasBoard n b → FitsWork n (table_of n ts b) w → KeepsCopies (reach n ts) n b (table_of n ts b) w (move_of n b (table_of n ts b) side w)
+route_conserves n ts b side w l a h f = conserves_to (reach n ts) n b (table_of n ts b) side w w.packet.dest (sound n ts b l a h) f refl
 
 -- a packet that comes into process has all its copies before it
 started_to_left : (on : Reach) (n : ShapeNumbers) (b : Board) (table : Table) (p : Packet) (d : Dest) → Sound on n b table → p.dest ≡ d → copies_left on n b table (started_to table p d) ≡ copies_to (λ key. on b key p.bytes) p.bytes d

@@ -1,3 +1,4 @@
+pub mod Toward
 pub mod Firsts
 pub mod Placed
 pub mod Moved
@@ -6,3 +7,4 @@ pub mod Searched
 pub mod Resting
 pub mod There
 pub mod Conserved
+pub mod Deeds

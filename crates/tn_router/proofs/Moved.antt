@@ -1,5 +1,5 @@
 -- A move leaves in process what fits there, and sends on what fits its way.
-use Rattle.std.proofs.Common.{ℕ, ◌≡◌, ◌+◌, ◌==◌, ◌||◌, true, false, [], get_or, length, refl, sym, ap, subst, inl, inr, leb, ltb, Option, Some, None, MatchOption, is_some, option_map}
+use Rattle.std.proofs.Common.{ℕ, ◌≡◌, ◌+◌, ◌==◌, ◌||◌, ◌∙◌, true, false, [], get_or, length, refl, sym, ap, subst, inl, inr, leb, ltb, Option, Some, None, MatchOption, is_some, option_map}
 use Rattle.std.specs.Prelude.{not, slice_get}
 use Rattle.std.proofs.lemmas.Bool.{and_parts, cond_both, or_left}
 use Rattle.tn_base.specs.declared.ids.Board.{Board}
@@ -14,27 +14,28 @@ use Rattle.tn_keys.specs.declared.record.RouteRec.{RouteRec}
 use Rattle.tn_keys.specs.declared.record.RouteRec.TheVariants.{Urm1, Urm2, Rr, Mrm, Ind}
 use Rattle.tn_keys.specs.Copies.{keyed, neighbour, tile_address}
 use Rattle.tn_keys.specs.Key.{key_first}
-use Rattle.tn_keys.specs.Tables.{Table, is_bad_key}
+use Rattle.tn_keys.specs.Tables.{HasBoard, Table, is_bad_key}
 use Rattle.tn_router.specs.declared.moves.Move.{Move}
 use Rattle.tn_router.specs.declared.moves.Sent.{Sent}
 use Rattle.tn_router.specs.declared.work.Work.{Work}
 use Rattle.tn_router.specs.Kept.{FitsWay, FitsWork, MoveFits, WellShaped, is_keyed, is_placed, is_record_of, leads_on}
 use Rattle.tn_router.specs.Moves.{behind, copy_by, key_move, move_of, move_to, record_move, sent_if, way_of, whole_move}
-use Rattle.tn_router.specs.Places.{work_at}
+use Rattle.tn_router.specs.Places.{has_way, work_at}
 use Rattle.tn_router.specs.Rest.{at_beat, beats_from, entered, first_full, from_beat, next_record, next_work, or_zero, rest_by, rest_to, started, started_to}
 use Rattle.tn_router.specs.RouterView.{RouterView}
 use Rattle.tn_router.proofs.Firsts.{placed_cases}
 use Rattle.tn_router.proofs.Placed.{entered_placed, next_placed}
+use Rattle.tn_router.proofs.Toward.{port_there, way_there}
 
 -- what is sent on fits its way
-abbrev pub SentFits : ShapeNumbers → Option Sent → Type 0
-SentFits n o = MatchOption o (Unit {0}) (λ s. FitsWay n s.way s.packet)
+abbrev pub SentFits : ShapeNumbers → Board → Option Sent → Type 0
+SentFits n b o = MatchOption o (Unit {0}) (λ s. FitsWay n b s.way s.packet)
 
 abbrev pub WorkFits : ShapeNumbers → Table → Option Work → Type 0
 WorkFits n table o = MatchOption o (Unit {0}) (FitsWork n table)
 
-sent_fits : (n : ShapeNumbers) (way : Port) (p : Packet) → (not (is_keyed p.dest) || leads_on way) ≡ true → SentFits n (sent_if n way p)
-sent_fits n way p h = cond_both (has_packet n p) (Some (record { way = way; packet = p })) None (SentFits n) (λ e. (e, h)) (λ _. tt)
+sent_fits : (n : ShapeNumbers) (b : Board) (way : Port) (p : Packet) → (not (is_keyed p.dest) || leads_on way) ≡ true → has_way n b way ≡ true → SentFits n b (sent_if n way p)
+sent_fits n b way p h there = cond_both (has_packet n p) (Some (record { way = way; packet = p })) None (SentFits n b) (λ e. (e, h, there)) (λ _. tt)
 
 way_leads : (dir : ℕ) → leads_on (way_of dir) ≡ true
 way_leads dir =
@@ -42,11 +43,11 @@ way_leads dir =
     (λ _. cond_both (dir == 1) _ _ (λ w. leads_on w ≡ true) (λ _. refl)
     (λ _. cond_both (dir == 2) _ _ (λ w. leads_on w ≡ true) (λ _. refl) (λ _. refl)))
 
-copy_fits : (n : ShapeNumbers) (b : Board) (p : Packet) (r : RouteRec) → SentFits n (copy_by n b p r)
-copy_fits n b p (Urm1 tile thread key) = sent_fits n port.Down (record p { dest = dest.Thread (record { 0 = tile_address b tile + thread }); bytes = keyed 4 key p.bytes }) refl
-copy_fits n b p (Urm2 tile thread key) = sent_fits n port.Down (record p { dest = dest.Thread (record { 0 = tile_address b tile + thread }); bytes = keyed 8 key p.bytes }) refl
-copy_fits n b p (Rr dir key) = cond_both (is_some (neighbour n dir b)) _ _ (SentFits n) (λ _. sent_fits n (way_of dir) (record p { dest = dest.Key key }) (way_leads dir)) (λ _. tt)
-copy_fits n b p (Mrm tile key mask) = sent_fits n port.Down (record p { dest = dest.Mask (record { 0 = tile_address b tile }) mask; bytes = keyed 2 key p.bytes }) refl
+copy_fits : (n : ShapeNumbers) (b : Board) (p : Packet) (r : RouteRec) → SentFits n b (copy_by n b p r)
+copy_fits n b p (Urm1 tile thread key) = sent_fits n b port.Down (record p { dest = dest.Thread (record { 0 = tile_address b tile + thread }); bytes = keyed 4 key p.bytes }) refl refl
+copy_fits n b p (Urm2 tile thread key) = sent_fits n b port.Down (record p { dest = dest.Thread (record { 0 = tile_address b tile + thread }); bytes = keyed 8 key p.bytes }) refl refl
+copy_fits n b p (Rr dir key) = cond_both (is_some (neighbour n dir b)) (sent_if n (way_of dir) (record p { dest = dest.Key key })) None (SentFits n b) (λ e. sent_fits n b (way_of dir) (record p { dest = dest.Key key }) (way_leads dir) (way_there n b dir ∙ e)) (λ _. tt)
+copy_fits n b p (Mrm tile key mask) = sent_fits n b port.Down (record p { dest = dest.Mask (record { 0 = tile_address b tile }) mask; bytes = keyed 2 key p.bytes }) refl refl
 copy_fits n b p (Ind key) = tt
 
 -- the packet of what stays in process is one of the machine, if its packet was
@@ -80,11 +81,13 @@ behind_fits n table key w (Mrm tile local mask) e h is = next_fits n table key w
 behind_fits n table key w (Ind onward) e h is = both_fit n table (entered table w.packet onward) (has_entered n table w.packet onward h) (entered_placed table w.packet onward)
 
 -- a move fits a router
-abbrev MoveFitsIn : ShapeNumbers → Table → Move → Type 0
-MoveFitsIn n table m = WorkFits n table m.work × SentFits n m.sent
+abbrev MoveFitsIn : ShapeNumbers → Board → Table → Move → Type 0
+MoveFitsIn n b table m = WorkFits n table m.work × SentFits n b m.sent
 
-whole_fits : (n : ShapeNumbers) (b : Board) (table : Table) (side : Port) (p : Packet) → has_packet n p ≡ true → is_keyed p.dest ≡ false → MoveFitsIn n table (whole_move b side p)
-whole_fits n b table side p h e = (tt, (h, or_left (not (is_keyed p.dest)) _ (ap not e)))
+whole_fits : (n : ShapeNumbers) (b : Board) (table : Table) (side : Port) (p : Packet) → HasBoard n b → has_packet n p ≡ true → is_keyed p.dest ≡ false → MoveFitsIn n b table (whole_move b side p)
+whole_fits n b table side p board h e =
+    let there = port_there n b p.dest board (and_parts (has_dest n p.dest) (leb (length p.bytes) (slot_bytes n)) h).0 in
+    (tt, (h, or_left (not (is_keyed p.dest)) _ (ap not e), there))
 
 -- a record that comes is one of the key's
 pub comes : (table : Table) (key : ℕ) (w : Work) (r : RouteRec) → w.packet.dest ≡ dest.Key key → is_placed table w ≡ true → slice_get (rest_by table w key) 0 ≡ Some r → is_record_of table key w.beat w.at ≡ true
@@ -95,23 +98,23 @@ comes table key w r e placed is = elim (placed_cases table key w e placed) [
       cc (no, is)
 ]
 
-record_fits : (n : ShapeNumbers) (b : Board) (table : Table) (side : Port) (key : ℕ) (w : Work) (o : Option RouteRec) → w.packet.dest ≡ dest.Key key → FitsWork n table w → slice_get (rest_by table w key) 0 ≡ o → MoveFitsIn n table (record_move n b table side key w o)
+record_fits : (n : ShapeNumbers) (b : Board) (table : Table) (side : Port) (key : ℕ) (w : Work) (o : Option RouteRec) → w.packet.dest ≡ dest.Key key → FitsWork n table w → slice_get (rest_by table w key) 0 ≡ o → MoveFitsIn n b table (record_move n b table side key w o)
 record_fits n b table side key w None e f is = (tt, tt)
 record_fits n b table side key w (Some r) e f is = (behind_fits n table key w r e f.0 (comes table key w r e f.1 is), copy_fits n b w.packet r)
 
-key_fits : (n : ShapeNumbers) (b : Board) (table : Table) (side : Port) (key : ℕ) (w : Work) → w.packet.dest ≡ dest.Key key → FitsWork n table w → MoveFitsIn n table (key_move n b table side key w)
+key_fits : (n : ShapeNumbers) (b : Board) (table : Table) (side : Port) (key : ℕ) (w : Work) → w.packet.dest ≡ dest.Key key → FitsWork n table w → MoveFitsIn n b table (key_move n b table side key w)
 key_fits n b table side key w e f =
-    cond_both (is_bad_key (length table) key) _ _ (MoveFitsIn n table) (λ _. (f, tt))
+    cond_both (is_bad_key (length table) key) _ _ (MoveFitsIn n b table) (λ _. (f, tt))
     (λ _. record_fits n b table side key w (next_record table w) e f (sym (ap (λ d. slice_get (rest_to table w d) 0) e)))
 
-move_fits_to : (n : ShapeNumbers) (b : Board) (table : Table) (side : Port) (w : Work) (d : Dest) → w.packet.dest ≡ d → FitsWork n table w → MoveFitsIn n table (move_to n b table side w d)
-move_fits_to n b table side w (dest.Thread t) e f = whole_fits n b table side w.packet f.0 (ap is_keyed e)
-move_fits_to n b table side w dest.Host e f = whole_fits n b table side w.packet f.0 (ap is_keyed e)
-move_fits_to n b table side w (dest.Mask tile mask) e f = whole_fits n b table side w.packet f.0 (ap is_keyed e)
-move_fits_to n b table side w (dest.Key key) e f = key_fits n b table side key w e f
+move_fits_to : (n : ShapeNumbers) (b : Board) (table : Table) (side : Port) (w : Work) (d : Dest) → HasBoard n b → w.packet.dest ≡ d → FitsWork n table w → MoveFitsIn n b table (move_to n b table side w d)
+move_fits_to n b table side w (dest.Thread t) board e f = whole_fits n b table side w.packet board f.0 (ap is_keyed e)
+move_fits_to n b table side w dest.Host board e f = whole_fits n b table side w.packet board f.0 (ap is_keyed e)
+move_fits_to n b table side w (dest.Mask tile mask) board e f = whole_fits n b table side w.packet board f.0 (ap is_keyed e)
+move_fits_to n b table side w (dest.Key key) board e f = key_fits n b table side key w e f
 
-pub move_fits : (n : ShapeNumbers) (b : Board) (table : Table) (side : Port) (w : Work) → FitsWork n table w → WorkFits n table (move_of n b table side w).work × SentFits n (move_of n b table side w).sent
-move_fits n b table side w f = move_fits_to n b table side w w.packet.dest refl f
+pub move_fits : (n : ShapeNumbers) (b : Board) (table : Table) (side : Port) (w : Work) → HasBoard n b → FitsWork n table w → WorkFits n table (move_of n b table side w).work × SentFits n b (move_of n b table side w).sent
+move_fits n b table side w board f = move_fits_to n b table side w w.packet.dest board refl f
 
 -- the packet of a place fits, as each does
 pub work_fits : (v : RouterView) (side : Port) (w : Work) → WellShaped v → work_at side v.process ≡ Some w → FitsWork v.shape v.beats w
@@ -119,7 +122,7 @@ work_fits v side w s e = subst (WorkFits v.shape v.beats) e (s.works side)
 
 pub placed_fits : (v : RouterView) (side : Port) (w : Work) (m : Move) → WellShaped v → work_at side v.process ≡ Some w → m ≡ move_of v.shape v.board v.beats side w → MoveFits v m
 placed_fits v side w m s e is =
-    let f = move_fits v.shape v.board v.beats side w (work_fits v side w s e) in
+    let f = move_fits v.shape v.board v.beats side w s.board (work_fits v side w s e) in
     subst (MoveFits v) (sym is) (record { work = f.0; sent = f.1 })
 
 -- a packet that comes into process is the one that came

@@ -1,16 +1,14 @@
 -- The records still to come, after each step.
-use Rattle.std.proofs.Common.{ℕ, zero, suc, ◌≡◌, ◌≤◌, ◌<◌, ◌+◌, ◌-◌, ◌++◌, ◌||◌, Bool, true, false, cond, List, [], ◌∷◌, drop, get_or, take, length, refl, sym, ap, subst, ◌∙◌, arith, ltb, Option, Some, None, MatchOption, option_map}
-use Rattle.std.specs.Prelude.{slice_get}
+use Rattle.std.proofs.Common.{ℕ, zero, suc, ◌≡◌, ◌≤◌, ◌+◌, ◌++◌, true, false, List, [], ◌∷◌, drop, get_or, take, length, refl, sym, ap, subst, ◌∙◌, arith, ltb, Option, Some, None, MatchOption, option_map}
 use Rattle.std.proofs.lemmas.Bool.{cond_both, le-ltb, ltb-false}
 use Rattle.std.proofs.lemmas.List.{drop-drop, drop-take}
-use Rattle.tn_base.specs.declared.message.Dest.{Dest}
 use Rattle.tn_base.specs.declared.message.Dest.TheVariants as dest
 use Rattle.tn_base.specs.declared.message.Packet.{Packet}
 use Rattle.tn_keys.specs.declared.record.RouteRec.{RouteRec}
 use Rattle.tn_keys.specs.Key.{key_count, key_first}
-use Rattle.tn_keys.specs.Tables.{Table, beats_in, is_bad_key, joined, records_at}
+use Rattle.tn_keys.specs.Tables.{Table, is_bad_key, joined, records_at}
 use Rattle.tn_router.specs.declared.work.Work.{Work}
-use Rattle.tn_router.specs.Rest.{at_beat, beats_from, entered, first_full, from_beat, next_work, or_zero, rest_by, rest_of, rest_to, started, started_by, started_to}
+use Rattle.tn_router.specs.Rest.{at_beat, beats_from, entered, first_full, from_beat, next_work, or_zero, rest_by, started_by}
 use Rattle.tn_router.proofs.Firsts.{IsRecord, beats_here, full_none, full_record}
 use Rattle.tn_router.proofs.Placed.{none_comes}
 
@@ -64,18 +62,18 @@ rest_next table key w f =
     let more : drop 1 (rest_by table w key) ≡ drop (w.at + 1) (beat ++ others) =
     ap (drop 1) (rest_at table key w f.good f.first) ∙ drop-drop 1 w.at (joined (beats_from table key w.beat)) ∙ ap (λ bs. drop (w.at + 1) (joined bs)) here in
     subst (λ rs. Rests table key w.packet rs (next_work table key w)) (sym more) (
-      cond_both (ltb (w.at + 1) (length beat)) (Some (record w { at = w.at + 1 })) (from_beat table key (w.beat + 1) w.packet) (Rests table key w.packet (drop (w.at + 1) (beat ++ others)))
-      (λ _. (refl, rest_at table key (record w { at = w.at + 1 }) f.good f.first ∙ ap (λ bs. drop (w.at + 1) (joined bs)) here))
-      (λ past.
-        let first = f.first in
-        let stands = f.stands in
-        let end : w.at + 1 ≡ length beat = let le = ltb-false (w.at + 1) (length beat) past in omega arith in
-        let gone : drop (w.at + 1) (beat ++ others) ≡ others = ap (λ k. drop k (beat ++ others)) end ∙ drop_front beat others in
-        subst (λ rs. Rests table key w.packet rs (from_beat table key (w.beat + 1) w.packet)) (sym gone) (from_rests table key (w.beat + 1) w.packet f.good (omega arith)))
+    cond_both (ltb (w.at + 1) (length beat)) (Some (record w { at = w.at + 1 })) (from_beat table key (w.beat + 1) w.packet) (Rests table key w.packet (drop (w.at + 1) (beat ++ others)))
+    (λ _. (refl, rest_at table key (record w { at = w.at + 1 }) f.good f.first ∙ ap (λ bs. drop (w.at + 1) (joined bs)) here))
+    (λ past.
+    let first = f.first in
+    let stands = f.stands in
+    let end : w.at + 1 ≡ length beat = let le = ltb-false (w.at + 1) (length beat) past in omega arith in
+    let gone : drop (w.at + 1) (beat ++ others) ≡ others = ap (λ k. drop k (beat ++ others)) end ∙ drop_front beat others in
+    subst (λ rs. Rests table key w.packet rs (from_beat table key (w.beat + 1) w.packet)) (sym gone) (from_rests table key (w.beat + 1) w.packet f.good (omega arith)))
     ) where
-  drop_front : (xs ys : List RouteRec) → drop (length xs) (xs ++ ys) ≡ ys
-  drop_front [] ys = refl
-  drop_front (x ∷ xs) ys = drop_front xs ys
+      drop_front : (xs ys : List RouteRec) → drop (length xs) (xs ++ ys) ≡ ys
+      drop_front [] ys = refl
+      drop_front (x ∷ xs) ys = drop_front xs ys
 
 -- behind an IND those of its key come; of a bad key none do
 pub rest_entered : (table : Table) (p : Packet) (key : ℕ) → Rests table key (record p { dest = dest.Key key }) (records_at table key) (entered table p key)

@@ -6,6 +6,7 @@ use Rattle.std.specs.Prelude.{int_lt}
 use Rattle.std.proofs.lemmas.Bool.{and_parts}
 use Rattle.std.proofs.lemmas.Int.{ints, to_z-of_z}
 use mir.Val.{of_z, to_z}
+use Rattle.tn_base.specs.declared.ids.Board.{Board}
 use Rattle.tn_base.specs.declared.message.Packet.{Packet}
 use Rattle.tn_base.specs.declared.port.Port.{Port}
 use Rattle.tn_base.specs.declared.port.Port.TheVariants as port
@@ -26,8 +27,8 @@ use Rattle.tn_router.proofs.Moved.{SentFits, WorkFits, has_started}
 use Rattle.tn_router.proofs.Placed.{started_placed}
 
 -- a packet that fits its way, or none
-abbrev pub WaitFits : ShapeNumbers → Port → Option Packet → Type 0
-WaitFits n way o = MatchOption o (Unit {0}) (FitsWay n way)
+abbrev pub WaitFits : ShapeNumbers → Board → Port → Option Packet → Type 0
+WaitFits n b way o = MatchOption o (Unit {0}) (FitsWay n b way)
 
 set_work : (side at : Port) (n : ShapeNumbers) (table : Table) (o : Option Work) (p : Process) → WorkFits n table o → ((s : Port) → WorkFits n table (work_at s p)) → WorkFits n table (work_at at (with_work side o p))
 set_work port.East port.East n table o p fits all = fits
@@ -45,32 +46,32 @@ set_work port.HostPort at n table o p fits all = all at
 set_work port.Down at n table o p fits all = all at
 set_work port.Here at n table o p fits all = all at
 
-set_buffer : (way at : Port) (n : ShapeNumbers) (o : Option Packet) (b : Buffers) → WaitFits n way o → ((w : Port) → WaitFits n w (buffer_at w b)) → WaitFits n at (buffer_at at (with_buffer way o b))
-set_buffer port.East port.East n o b fits all = fits
-set_buffer port.East at n o b fits all = all at
-set_buffer port.West port.West n o b fits all = fits
-set_buffer port.West at n o b fits all = all at
-set_buffer port.South port.South n o b fits all = fits
-set_buffer port.South at n o b fits all = all at
-set_buffer port.North port.North n o b fits all = fits
-set_buffer port.North at n o b fits all = all at
-set_buffer port.Down port.Down n o b fits all = fits
-set_buffer port.Down at n o b fits all = all at
-set_buffer port.HostPort port.HostPort n o b fits all = fits
-set_buffer port.HostPort at n o b fits all = all at
-set_buffer port.Up at n o b fits all = all at
-set_buffer port.Here at n o b fits all = all at
+set_buffer : (way at : Port) (n : ShapeNumbers) (b : Board) (o : Option Packet) (out : Buffers) → WaitFits n b way o → ((w : Port) → WaitFits n b w (buffer_at w out)) → WaitFits n b at (buffer_at at (with_buffer way o out))
+set_buffer port.East port.East n b o out fits all = fits
+set_buffer port.East at n b o out fits all = all at
+set_buffer port.West port.West n b o out fits all = fits
+set_buffer port.West at n b o out fits all = all at
+set_buffer port.South port.South n b o out fits all = fits
+set_buffer port.South at n b o out fits all = all at
+set_buffer port.North port.North n b o out fits all = fits
+set_buffer port.North at n b o out fits all = all at
+set_buffer port.Down port.Down n b o out fits all = fits
+set_buffer port.Down at n b o out fits all = all at
+set_buffer port.HostPort port.HostPort n b o out fits all = fits
+set_buffer port.HostPort at n b o out fits all = all at
+set_buffer port.Up at n b o out fits all = all at
+set_buffer port.Here at n b o out fits all = all at
 
-set_sent : (at : Port) (n : ShapeNumbers) (o : Option Sent) (b : Buffers) → SentFits n o → ((w : Port) → WaitFits n w (buffer_at w b)) → WaitFits n at (buffer_at at (with_sent o b))
-set_sent at n None b fits all = all at
-set_sent at n (Some s) b fits all = set_buffer s.way at n (Some s.packet) b fits all
+set_sent : (at : Port) (n : ShapeNumbers) (b : Board) (o : Option Sent) (out : Buffers) → SentFits n b o → ((w : Port) → WaitFits n b w (buffer_at w out)) → WaitFits n b at (buffer_at at (with_sent o out))
+set_sent at n b None out fits all = all at
+set_sent at n b (Some s) out fits all = set_buffer s.way at n b (Some s.packet) out fits all
 
 -- a move is made
 pub carried_shaped : (v : RouterView) (m : Move) → MoveFits v m → WellShaped v → WellShaped (carried v m)
 carried_shaped v m f w = record {
   board = w.board;
   works = λ at. set_work m.side at v.shape v.beats m.work v.process f.work w.works;
-  waits = λ at. set_sent at v.shape m.sent v.out f.sent w.waits;
+  waits = λ at. set_sent at v.shape v.board m.sent v.out f.sent w.waits;
 }
 
 -- a packet comes into process, or none
@@ -86,7 +87,7 @@ pub gone_shaped : (v : RouterView) (way : Port) → WellShaped v → WellShaped 
 gone_shaped v way w = record {
   board = w.board;
   works = w.works;
-  waits = λ at. set_buffer way at v.shape None v.out tt w.waits;
+  waits = λ at. set_buffer way at v.shape v.board None v.out tt w.waits;
 }
 
 -- other counts, colours and notes

@@ -1,18 +1,15 @@
 -- In accepted tables the destination of each copy is there.
-use Rattle.std.proofs.Common.{ℕ, zero, suc, ◌≡◌, ◌≤◌, ◌<◌, ◌+◌, ◌-◌, ◌*◌, ◌/◌, ◌%◌, ◌==◌, ◌&&◌, ◌||◌, ◌++◌, Bool, true, false, cond, List, [], ◌∷◌, drop, get_or, length, refl, sym, ap, ◌∙◌, arith, leb, ltb, Option, Some, None}
+use Rattle.std.proofs.Common.{ℕ, zero, suc, ◌≡◌, ◌≤◌, ◌<◌, ◌+◌, ◌/◌, ◌%◌, ◌==◌, ◌||◌, ◌++◌, Bool, true, false, List, [], ◌∷◌, drop, get_or, length, refl, sym, ap, ◌∙◌, arith, leb, ltb, Some}
 use Rattle.std.specs.Int.{bytes_low_first}
 use Rattle.std.specs.List.{list_any}
 use Rattle.std.specs.Prelude.{not, slice_get}
-use Rattle.std.proofs.lemmas.Bool.{and_from, and_parts, cond_both, eq-eqb, le-leb, leb-true, lt-ltb, ltb-true, not_from_false, or_parts}
+use Rattle.std.proofs.lemmas.Bool.{and_from, and_parts, cond_both, eq-eqb, le-leb, leb-true, lt-ltb, ltb-true, or_parts}
 use Rattle.std.proofs.lemmas.List.{length-append, length-drop}
 use Rattle.byteorder.specs.Numbers.{length-bytes_low_first}
 use Rattle.tn_base.specs.declared.ids.Board.{Board}
-use Rattle.tn_base.specs.declared.message.Dest.{Dest}
-use Rattle.tn_base.specs.declared.message.Packet.{Packet}
 use Rattle.tn_base.specs.declared.shape.ShapeNumbers.{ShapeNumbers}
 use Rattle.tn_base.specs.Address.{has_thread, has_tile, names_tile}
-use Rattle.tn_base.specs.Message.{has_dest, has_packet, slot_bytes}
-use Rattle.tn_base.specs.Mask.{names_threads}
+use Rattle.tn_base.specs.Message.{slot_bytes}
 use Rattle.tn_base.specs.Shape.{WithinLimits}
 use Rattle.tn_keys.specs.declared.record.RouteRec.{RouteRec}
 use Rattle.tn_keys.specs.Accepted.{Accepted, bad_thread, empty_mask, has_bit, has_place, off_machine}

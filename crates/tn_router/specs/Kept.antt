@@ -13,7 +13,7 @@ use Rattle.tn_keys.specs.Key.{key_count, key_first}
 use Rattle.tn_keys.specs.Tables.{HasBoard, Table, is_bad_key}
 use Rattle.tn_router.specs.declared.moves.Move.{Move}
 use Rattle.tn_router.specs.declared.work.Work.{Work}
-use Rattle.tn_router.specs.Places.{buffer_at, work_at}
+use Rattle.tn_router.specs.Places.{buffer_at, has_way, work_at}
 use Rattle.tn_router.specs.Rest.{rest_of}
 use Rattle.tn_router.specs.RouterView.{RouterView}
 
@@ -61,19 +61,19 @@ leads_on port.Down = false
 leads_on port.HostPort = false
 leads_on port.Here = false
 
--- a packet that waits for a way out is one of the machine; one with a key goes to a neighbouring router
-abbrev pub FitsWay : ShapeNumbers → Port → Packet → Type 0
-FitsWay n way p = IsTrue (has_packet n p) × IsTrue (not (is_keyed p.dest) || leads_on way)
+-- a packet that waits for a way out is one of the machine; one with a key goes to a neighbouring router; and the way is there
+abbrev pub FitsWay : ShapeNumbers → Board → Port → Packet → Type 0
+FitsWay n b way p = IsTrue (has_packet n p) × IsTrue (not (is_keyed p.dest) || leads_on way) × IsTrue (has_way n b way)
 
 pub record WellShaped (v : RouterView) : Type 0 where
   pub board : HasBoard v.shape v.board
   pub works : (side : Port) → MatchOption (work_at side v.process) ⊤ (FitsWork v.shape v.beats)
-  pub waits : (way : Port) → MatchOption (buffer_at way v.out) ⊤ (FitsWay v.shape way)
+  pub waits : (way : Port) → MatchOption (buffer_at way v.out) ⊤ (FitsWay v.shape v.board way)
 
 -- a move leaves in process what fits there, and sends on what fits its way
 pub record MoveFits (v : RouterView) (m : Move) : Type 0 where
   pub work : MatchOption m.work ⊤ (FitsWork v.shape v.beats)
-  pub sent : MatchOption m.sent ⊤ (λ s. FitsWay v.shape s.way s.packet)
+  pub sent : MatchOption m.sent ⊤ (λ s. FitsWay v.shape v.board s.way s.packet)
 
 -- a router at its start
 abbrev pub fresh_router : ShapeNumbers → Board → Table → RouterView

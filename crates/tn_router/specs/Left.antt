@@ -1,5 +1,5 @@
 -- The copies still to come of the packets in a router.
-use Rattle.std.specs.Prelude.{ℕ, List, [], ◌∷◌, Option, Some, None}
+use Rattle.std.specs.Prelude.{ℕ, ◌≡◌, ◌++◌, List, [], ◌∷◌, Option, Some, None}
 use Rattle.tn_base.specs.declared.ids.Board.{Board}
 use Rattle.tn_base.specs.declared.message.Dest.{Dest}
 use Rattle.tn_base.specs.declared.message.Dest.TheVariants as dest
@@ -10,6 +10,7 @@ use Rattle.tn_base.specs.declared.shape.ShapeNumbers.{ShapeNumbers}
 use Rattle.tn_keys.specs.Copies.{Copy, copy_to, led, masked_copies, neighbour, onto}
 use Rattle.tn_keys.specs.Reach.{Reach, walk}
 use Rattle.tn_keys.specs.Tables.{Table}
+use Rattle.tn_router.specs.declared.moves.Move.{Move}
 use Rattle.tn_router.specs.declared.moves.Sent.{Sent}
 use Rattle.tn_router.specs.declared.work.Work.{Work}
 use Rattle.tn_router.specs.Rest.{rest_of}
@@ -54,3 +55,8 @@ all_left on n b table (Some w) = copies_left on n b table w
 abbrev pub all_sent : Reach → ShapeNumbers → Board → Option Sent → List Copy
 all_sent on n b None = []
 all_sent on n b (Some s) = copies_out on n b s.way s.packet
+
+-- a move loses no copy and makes none twice: those that were to come are those of what it sends on, then those of what stays
+abbrev pub KeepsCopies : Reach → ShapeNumbers → Board → Table → Work → Move → Type 0
+KeepsCopies on n b table w m =
+    copies_left on n b table w ≡ all_sent on n b m.sent ++ all_left on n b table m.work

@@ -22,6 +22,18 @@ has_side n b port.Down = false
 has_side n b port.HostPort = b.x == 0 && b.y == 0
 has_side n b port.Here = false
 
+-- a way out of the router of a board is there: to a neighbour, to the first tile of the board, and to the host from the first
+-- board
+abbrev pub has_way : ShapeNumbers → Board → Port → Bool
+has_way n b port.East = is_some (neighbour n 0 b)
+has_way n b port.West = is_some (neighbour n 1 b)
+has_way n b port.South = is_some (neighbour n 2 b)
+has_way n b port.North = is_some (neighbour n 3 b)
+has_way n b port.Up = false
+has_way n b port.Down = true
+has_way n b port.HostPort = b.x == 0 && b.y == 0
+has_way n b port.Here = false
+
 -- the packet in process that came from a side, and another one in its place
 abbrev pub work_at : Port → Process → Option Work
 work_at port.East p = p.east

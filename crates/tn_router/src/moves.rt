@@ -1,6 +1,6 @@
 //! What one Route makes of a packet in process.
 
-ghost use Rattle.std.specs.Prelude.{◌≡◌, ◌≤◌, ◌<◌, ◌^◌, false, IsTrue, length};
+ghost use Rattle.std.specs.Prelude.{◌≡◌, ◌+◌, ◌≤◌, ◌<◌, ◌^◌, false, IsTrue, length};
 ghost use Rattle.byteorder.specs.Endian.{little_bytes};
 ghost use Rattle.tn_base.specs.Bytes.{fronted};
 ghost use Rattle.tn_base.specs.declared.message.Dest.TheVariants as dest;
@@ -104,6 +104,15 @@ fn tile_address(board: Board, tile: u8) -> u32
     board.y * 4096 + board.x * 1024 + u32::from(tile) * 64
 }
 
+/// A thread of a tile of a board.
+fn thread_at(board: Board, tile: u8, thread: u8) -> Dest
+    requires x { board.x < 4 }
+    requires y { board.y < 4 }
+    ensures { result ≡ dest.Thread (record { 0 = tile_address board tile + thread }) }
+{
+    Dest::Thread(ThreadId(tile_address(board, tile) + u32::from(thread)))
+}
+
 /// The packet with another destination, its first bytes replaced.
 fn fronted(p: &Packet, to: Dest, front: &[u8]) -> Packet
     requires { length front.now ≤ 8 }
@@ -117,7 +126,7 @@ fn fronted(p: &Packet, to: Dest, front: &[u8]) -> Packet
     }
 }
 
-/// The bytes of a local key, two of an MRM, four or eight of a URM, the lowest first.
+/// The local key of an MRM as bytes, the lowest first.
 fn bytes_2(key: u16) -> [u8; 2]
     ensures { result ≡ little_bytes 2 key }
 {
@@ -126,6 +135,7 @@ fn bytes_2(key: u16) -> [u8; 2]
     bytes
 }
 
+/// The local key of a URM1 as bytes, the lowest first.
 fn bytes_4(key: u32) -> [u8; 4]
     ensures { result ≡ little_bytes 4 key }
 {
@@ -134,6 +144,7 @@ fn bytes_4(key: u32) -> [u8; 4]
     bytes
 }
 
+/// The local key of a URM2 as bytes, the lowest first.
 fn bytes_8(key: u64) -> [u8; 8]
     ensures { result ≡ little_bytes 8 key }
 {
@@ -161,20 +172,12 @@ fn copy_by(shape: &Shape, board: Board, p: &Packet, route: RouteRec) -> Option<S
     let _numbers = shape.numbers();
     match route {
         RouteRec::Urm1 { tile, thread, key } => {
-            let id = ThreadId(tile_address(board, tile) + u32::from(thread));
-            sent_if(
-                shape,
-                Port::Down,
-                fronted(p, Dest::Thread(id), &bytes_4(key)),
-            )
+            let to = thread_at(board, tile, thread);
+            sent_if(shape, Port::Down, fronted(p, to, &bytes_4(key)))
         }
         RouteRec::Urm2 { tile, thread, key } => {
-            let id = ThreadId(tile_address(board, tile) + u32::from(thread));
-            sent_if(
-                shape,
-                Port::Down,
-                fronted(p, Dest::Thread(id), &bytes_8(key)),
-            )
+            let to = thread_at(board, tile, thread);
+            sent_if(shape, Port::Down, fronted(p, to, &bytes_8(key)))
         }
         RouteRec::Mrm { tile, key, mask } => {
             let to = Dest::Mask(TileId(tile_address(board, tile)), Mask::of(mask));

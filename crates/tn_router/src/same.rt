@@ -7,7 +7,6 @@ use crate::router::Router;
 use crate::work::{Process, Work};
 use tn_base::message::Packet;
 use tn_keys::beat::Beat;
-use tn_keys::record::RouteRec;
 
 impl Router {
     /// Whether the routers are equal.
@@ -26,21 +25,6 @@ impl Router {
     }
 }
 
-/// Whether the records are equal, in order.
-fn same_records(a: &[RouteRec], b: &[RouteRec]) -> bool
-    ensures { IsTrue result ↔ (a.now ≡ b.now) }
-{
-    if a.len() != b.len() {
-        return false;
-    }
-    for i in 0..a.len() {
-        if a[i] != b[i] {
-            return false;
-        }
-    }
-    true
-}
-
 /// Whether the beats hold equal records.
 fn same_beats(a: &[Beat], b: &[Beat]) -> bool
     ensures { IsTrue result ↔ (a.now ≡ b.now) }
@@ -49,7 +33,7 @@ fn same_beats(a: &[Beat], b: &[Beat]) -> bool
         return false;
     }
     for i in 0..a.len() {
-        if !same_records(a[i].records(), b[i].records()) {
+        if !a[i].same(&b[i]) {
             return false;
         }
     }
