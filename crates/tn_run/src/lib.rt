@@ -7,6 +7,8 @@
 
 pub mod answer;
 #[cfg(test)]
+mod bag_tests;
+#[cfg(test)]
 mod fault_tests;
 pub mod history;
 pub mod kept;
