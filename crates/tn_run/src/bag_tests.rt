@@ -77,7 +77,7 @@ struct Spelled {
 fn play_and_spell(alloc: Global, start: &World<PlainLink>, limit: u64) -> Result<Spelled, Fail> {
     let mut end = start.copy()?;
     let events = play(&mut end, limit)?;
-    let steps = bag_of(alloc, start, events.as_slice())?;
+    let steps = bag_of(alloc, start, &events)?;
     Ok(Spelled { end, events, steps })
 }
 
