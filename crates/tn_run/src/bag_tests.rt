@@ -20,7 +20,8 @@ use tn_world::world::World;
 
 /// A thread writes 77 into its message, sends it to itself, polls until it is there, takes it, reads 77 from it, frees it
 /// and ends with 77.
-const ECHO: &[u8] = b"tinsel 1\nshape 1 1 1 1 1 1\ncode all\n500005b7\n04d00613\n00c5a023\n80301073\n\
+const ECHO: &[u8] =
+    b"tinsel 1\nshape 1 1 1 1 1 1\ncode all\n500005b7\n04d00613\n00c5a023\n80301073\n\
     80601073\n80102573\nfe050ee3\n807025f3\n0005a503\n80859073\n80b51073\nend\n";
 
 /// A thread sends itself an empty message, and ends some steps later without it.
@@ -137,7 +138,11 @@ fn a_letter_that_is_left(rt: HostRuntime) -> Result<(), Fail> {
     let start = machine(&rt, alloc, LEFT)?;
     let whole = play_and_spell(alloc, &start, 100)?;
     let last = whole.steps.last();
-    assert!(rt; last == Some(&BagStep::Discard { letter: letter(&rt, 0, 0)? }));
+    assert!(rt;
+        last == Some(&BagStep::Discard {
+            letter: letter(&rt, 0, 0)?
+        })
+    );
     assert_eq!(rt; whole.steps.len(), 6);
     Ok(())
 }
@@ -149,7 +154,12 @@ fn a_letter_on_a_link(rt: HostRuntime) -> Result<(), Fail> {
     let eastward = PartId(4);
     makes(&rt, &mut world, Event::Turn(ThreadId(0), 8), Did::Moved)?;
     makes(&rt, &mut world, Event::Deliver(ThreadId(0)), Did::Moved)?;
-    makes(&rt, &mut world, Event::Depart(PartId(1), eastward), Did::Moved)?;
+    makes(
+        &rt,
+        &mut world,
+        Event::Depart(PartId(1), eastward),
+        Did::Moved,
+    )?;
     let places = standing(alloc, &world)?;
     let on = Place::OnLink(eastward, 0);
     assert!(rt; places.as_slice() == [(on, letter(&rt, 64, 64)?)].as_slice());

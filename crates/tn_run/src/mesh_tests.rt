@@ -98,7 +98,12 @@ fn a_packet_event_by_event(rt: HostRuntime) -> Result<(), Fail> {
     makes(&rt, &mut world, Event::Turn(receiver, 5), Did::Nothing)?;
     makes(&rt, &mut world, Event::Turn(receiver, 4), Did::Moved)?;
     assert_eq!(rt; enabled(&world), Some(Event::Deliver(sender)));
-    makes(&rt, &mut world, Event::Depart(FIRST, EASTWARD), Did::Nothing)?;
+    makes(
+        &rt,
+        &mut world,
+        Event::Depart(FIRST, EASTWARD),
+        Did::Nothing,
+    )?;
     makes(&rt, &mut world, Event::Deliver(sender), Did::Moved)?;
     assert_eq!(rt; enabled(&world), Some(Event::Depart(FIRST, EASTWARD)));
     // Another link, another part, a link that is no link, and a link that is empty.
@@ -113,12 +118,27 @@ fn a_packet_event_by_event(rt: HostRuntime) -> Result<(), Fail> {
         makes(&rt, &mut world, event, Did::Nothing)?;
     }
     makes(&rt, &mut world, Event::Depart(FIRST, EASTWARD), Did::Moved)?;
-    makes(&rt, &mut world, Event::Depart(FIRST, EASTWARD), Did::Nothing)?;
+    makes(
+        &rt,
+        &mut world,
+        Event::Depart(FIRST, EASTWARD),
+        Did::Nothing,
+    )?;
     assert_eq!(rt; enabled(&world), Some(Event::Arrive(EASTWARD, SECOND)));
-    makes(&rt, &mut world, Event::Arrive(EASTWARD, FIRST), Did::Nothing)?;
+    makes(
+        &rt,
+        &mut world,
+        Event::Arrive(EASTWARD, FIRST),
+        Did::Nothing,
+    )?;
     makes(&rt, &mut world, Event::Arrive(UPWARD, SECOND), Did::Nothing)?;
     makes(&rt, &mut world, Event::Arrive(EASTWARD, SECOND), Did::Moved)?;
-    makes(&rt, &mut world, Event::Arrive(EASTWARD, SECOND), Did::Nothing)?;
+    makes(
+        &rt,
+        &mut world,
+        Event::Arrive(EASTWARD, SECOND),
+        Did::Nothing,
+    )?;
     assert_eq!(rt; enabled(&world), Some(Event::Turn(receiver, 1)));
     makes(&rt, &mut world, Event::Turn(receiver, 4), Did::Moved)?;
     assert_eq!(rt; enabled(&world), None);

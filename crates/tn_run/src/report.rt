@@ -84,7 +84,11 @@ fn push_tile_exits(alloc: Global, text: &mut Vec<u8>, tile: &Tile) -> Result<(),
 }
 
 /// Appends the lines of all threads that ended, by address.
-fn push_exits(alloc: Global, text: &mut Vec<u8>, parts: &[Part<PlainLink>]) -> Result<(), AllocError>
+fn push_exits(
+    alloc: Global,
+    text: &mut Vec<u8>,
+    parts: &[Part<PlainLink>],
+) -> Result<(), AllocError>
     ensures { OnOk result (text.new.items ≡ text.old.items ++ exits_text parts.now) }
 {
     for part in parts {
@@ -94,7 +98,11 @@ fn push_exits(alloc: Global, text: &mut Vec<u8>, parts: &[Part<PlainLink>]) -> R
 }
 
 /// Appends the lines of the threads of a part that ended.
-fn push_part_exits(alloc: Global, text: &mut Vec<u8>, part: &Part<PlainLink>) -> Result<(), AllocError>
+fn push_part_exits(
+    alloc: Global,
+    text: &mut Vec<u8>,
+    part: &Part<PlainLink>,
+) -> Result<(), AllocError>
     ensures { OnOk result (text.new.items ≡ text.old.items ++ part_exits part.now) }
 {
     match part.as_tile() {
@@ -169,7 +177,11 @@ fn push_outcome(alloc: Global, text: &mut Vec<u8>, outcome: Outcome) -> Result<(
 }
 
 /// The report of a run that ended so with this machine.
-pub fn report(alloc: Global, end: &World<PlainLink>, outcome: Outcome) -> Result<Vec<u8>, AllocError>
+pub fn report(
+    alloc: Global,
+    end: &World<PlainLink>,
+    outcome: Outcome,
+) -> Result<Vec<u8>, AllocError>
     ensures { IfOk result (λ text. text.items ≡ report_text end.now outcome) }
 {
     let mut text = Vec::new(alloc);

@@ -27,7 +27,11 @@ const SENDER: &[u8] =
     b"tinsel 1\nshape 1 1 1 1 1 1\nturn 3\ncode all\n80301073\n80601073\n00000000\nend\n";
 
 /// The machine of a job at its start.
-pub(crate) fn machine<H: Abort>(rt: &H, alloc: Global, text: &[u8]) -> Result<World<PlainLink>, Fail> {
+pub(crate) fn machine<H: Abort>(
+    rt: &H,
+    alloc: Global,
+    text: &[u8],
+) -> Result<World<PlainLink>, Fail> {
     law_line_count(text);
     if text.len() > 1000 {
         panic!(rt; "the job is too long");
@@ -42,7 +46,12 @@ pub(crate) fn machine<H: Abort>(rt: &H, alloc: Global, text: &[u8]) -> Result<Wo
 }
 
 /// The event is enabled or not, as it should be.
-pub(crate) fn makes<H: Abort>(rt: &H, world: &mut World<PlainLink>, event: Event, did: Did) -> Result<(), Fail> {
+pub(crate) fn makes<H: Abort>(
+    rt: &H,
+    world: &mut World<PlainLink>,
+    event: Event,
+    did: Did,
+) -> Result<(), Fail> {
     assert_eq!(rt; step(world, &event)?, did);
     Ok(())
 }
