@@ -14,17 +14,20 @@ use Rattle.tn_base.specs.Shape.{first_fault, is_shape}
 use Rattle.tn_rows.specs.WorldView.{WorldView}
 use Rattle.job_text.specs.declared.job.FillLine.{FillLine}
 use Rattle.job_text.specs.declared.job.Job.{Job}
+use Rattle.job_text.specs.declared.job.TableSection.{TableSection}
 use Rattle.job_load.specs.declared.fault.FaultName.TheVariants as fault
 use Rattle.job_load.specs.declared.fault.LoadFault.{LoadFault}
 use Rattle.job_load.specs.Code.{code_of, is_empty, lacks_code}
 use Rattle.job_load.specs.Assembly.{sections_of}
-use Rattle.job_load.specs.Faults.{asm_fault, code_fault, fault_at, fill_fault, missing_fault, number_fault, section_fault, shape_line, soonest, unbuilt_fault}
+use Rattle.job_load.specs.Faults.{asm_fault, beat_fault, beat_lines, fault_at, fill_fault, has_board, missing_fault, number_fault, place_fault, section_fault, shape_line, unbuilt_fault}
 use Rattle.job_load.specs.Images.{IsWithin}
 use Rattle.job_load.specs.Laws.{IsFreshPart, IsStart}
 use Rattle.job_load.specs.Loaded.{loaded, unless}
 use Rattle.job_load.specs.Start.{part_start, start_of}
-use Rattle.job_load.proofs.Faults.{none_soonest, sooner_neither}
-use Rattle.job_load.proofs.Starts.{fill_within, start_is_world}
+use Rattle.job_load.specs.Tables.{table_fault}
+use Rattle.job_load.proofs.Boards.{faultless}
+use Rattle.job_load.proofs.Faults.{none_soonest}
+use Rattle.job_load.proofs.Starts.{fill_within, nothing_found, start_is_world}
 
 passes : (f : Option LoadFault) (others : Result WorldView LoadFault) (w : WorldView) → unless f others ≡ Ok w → (f ≡ None) × (others ≡ Ok w)
 passes None others w e = (refl, e)
@@ -67,12 +70,22 @@ fills_there : (n : ShapeNumbers) (fills : List FillLine) → AllByRecursion (λ 
 fills_there n [] all = tt
 fills_there n (f ∷ fs) all = ((there_by n f (has_thread n f.thread) (nat_lt n.mem (f.address + length f.bytes)) all.0, fill_within n f all.0), fills_there n fs all.1)
 
+-- Tables.
+
+board_there : (n : ShapeNumbers) (t : TableSection) (there : Bool) → (if there then None else Some (fault_at t.line fault.BadTable)) ≡ None → IsTrue there
+board_there n t false e = absurd cc
+board_there n t true e = refl
+
+boards_there : (n : ShapeNumbers) (tables : List TableSection) → AllByRecursion (λ t. place_fault n t ≡ None) tables → AllByRecursion (λ t. IsTrue (has_board n t)) tables
+boards_there n [] all = tt
+boards_there n (t ∷ ts) all = (board_there n t (has_board n t) all.0, boards_there n ts all.1)
+
 -- Parts.
 
 fresh_part : (job : Job) (k : Kind) → IsFreshPart (part_start job k)
 fresh_part job (kind.Tile tile) = record { pending = refl; pool = refl; transit = refl; dropped = refl; counter = refl; white = refl; free = refl; going = refl }
 fresh_part job kind.Host = tt
-fresh_part job (kind.Router board) = tt
+fresh_part job (kind.Router board) = record { process = refl; out = refl; counter = refl; white = refl; free = refl; going = refl }
 fresh_part job (kind.Link from onto) = refl
 fresh_part job kind.Detector = tt
 
@@ -80,26 +93,30 @@ fresh_parts : (job : Job) (kinds : List Kind) → AllByRecursion IsFreshPart (ma
 fresh_parts job [] = tt
 fresh_parts job (k ∷ ks) = (fresh_part job k, fresh_parts job ks)
 
-start_by : (job : Job) → number_fault job ≡ None → section_fault job ≡ None → missing_fault job ≡ None → IsStart job (start_of job)
-start_by job numbers sections missing =
-    let both = sooner_neither (soonest (code_fault job.numbers) (sections_of job)) (soonest (fill_fault job.numbers) job.fills) sections in
+start_by : (job : Job) → number_fault job ≡ None → section_fault job ≡ None → missing_fault job ≡ None → table_fault job ≡ None → IsStart job (start_of job)
+start_by job numbers sections missing tables =
+    let none = nothing_found job sections in
     let coded = no_code (lacks_code job.numbers (sections_of job)) (fault_at (shape_line job.number_lines) fault.NoCode) missing in
     record {
       start = refl;
       world = start_is_world job;
       numbers = in_limits job numbers;
       code = λ i h. let e = any_later (λ k. is_empty (code_of (sections_of job) (tile_at job.numbers k))) 0 (tile_count job.numbers) i coded (omega arith) (omega arith) in grind (arith, nat_tests);
-      fills = fills_there job.numbers job.fills (none_soonest (fill_fault job.numbers) job.fills both.1);
+      fills = fills_there job.numbers job.fills (none_soonest (fill_fault job.numbers) job.fills none.second);
+      boards = boards_there job.numbers job.tables (none_soonest (place_fault job.numbers) job.tables none.third);
+      beats = none_soonest (beat_fault job.version) (beat_lines job.tables) none.fourth;
+      tables = faultless job tables;
       fresh = fresh_parts job (parts job.numbers);
     }
 
 pub accepted : (job : Job) (w : WorldView) → loaded job ≡ Ok w → IsStart job w
 accepted job w e =
-    let one = passes (number_fault job) (unless (unbuilt_fault job) (unless (asm_fault job) (unless (section_fault job) (unless (missing_fault job) (Ok (start_of job)))))) w e in
-    let two = passes (unbuilt_fault job) (unless (asm_fault job) (unless (section_fault job) (unless (missing_fault job) (Ok (start_of job))))) w one.1 in
-    let assembled = passes (asm_fault job) (unless (section_fault job) (unless (missing_fault job) (Ok (start_of job)))) w two.1 in
-    let three = passes (section_fault job) (unless (missing_fault job) (Ok (start_of job))) w assembled.1 in
-    let four = passes (missing_fault job) (Ok (start_of job)) w three.1 in
+    let one = passes (number_fault job) _ w e in
+    let two = passes (unbuilt_fault job) _ w one.1 in
+    let three = passes (asm_fault job) _ w two.1 in
+    let four = passes (section_fault job) _ w three.1 in
+    let five = passes (missing_fault job) _ w four.1 in
+    let six = passes (table_fault job) (Ok (start_of job)) w five.1 in
     let same : start_of job ≡ w = cc in
     let P : WorldView → Type 0 = λ v. IsStart job v in
-    subst P same (start_by job one.0 three.0 four.0)
+    subst P same (start_by job one.0 four.0 five.0 six.0)

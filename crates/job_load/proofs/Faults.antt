@@ -7,12 +7,14 @@ use Rattle.std.specs.declared.result.Result.TheVariants.{Ok}
 use Rattle.tn_base.specs.declared.shape.ShapeFault.{ShapeFault}
 use Rattle.tn_base.specs.declared.shape.ShapeNumbers.{ShapeNumbers}
 use Rattle.tn_base.specs.Shape.{first_fault, shape_by}
+use Rattle.job_text.specs.declared.job.BeatLine.{BeatLine}
 use Rattle.job_text.specs.declared.job.CodeSection.{CodeSection}
 use Rattle.job_text.specs.declared.job.Job.{Job}
 use Rattle.job_text.specs.declared.job.Owner.{Owner}
+use Rattle.job_text.specs.declared.job.TableSection.{TableSection}
 use Rattle.job_load.specs.declared.fault.LoadFault.{LoadFault}
 use Rattle.job_load.specs.Code.{words_by}
-use Rattle.job_load.specs.Faults.{number_fault, sooner, soonest}
+use Rattle.job_load.specs.Faults.{beat_lines, number_fault, sooner, soonest}
 use Rattle.job_load.proofs.Ranges.{rest_first}
 
 -- the numbers of a shape that is made are those that were asked for, and none is at fault
@@ -56,11 +58,34 @@ pub soonest_append : {X : Type 0} (test : X → Option LoadFault) (xs ys : List 
 soonest_append test [] ys = refl
 soonest_append test (x ∷ xs) ys = rw (soonest_append test xs ys, sooner_assoc (test x) (soonest test xs) (soonest test ys)) refl
 
+-- the beats of a table, and those of the tables behind it
+pub beats_more : (test : BeatLine → Option LoadFault) (ts : List TableSection) (i : ℕ) (t : TableSection) (first : Option LoadFault) → i < length ts → t ≡ get_or ts i t →
+    sooner (sooner first (soonest test t.beats)) (soonest test (beat_lines (drop (i + 1) ts))) ≡ sooner first (soonest test (beat_lines (drop i ts)))
+beats_more test ts i t first h is =
+    rw (rest_first ts i t h is, soonest_append test t.beats (beat_lines (drop (i + 1) ts))) (sooner_assoc first (soonest test t.beats) (soonest test (beat_lines (drop (i + 1) ts))))
+
+pub beats_done : (test : BeatLine → Option LoadFault) (ts : List TableSection) (i : ℕ) (first : Option LoadFault) → length ts ≤ i → sooner first (soonest test (beat_lines (drop i ts))) ≡ first
+beats_done test ts i first h = rw (drop_all i ts h) (sooner_none first)
+
 -- where no item is at fault, the test says so of each
 pub sooner_neither : (a b : Option LoadFault) → sooner a b ≡ None → (a ≡ None) × (b ≡ None)
 sooner_neither None b e = (refl, e)
 sooner_neither (Some a) None e = absurd cc
 sooner_neither (Some a) (Some b) e = absurd (no_choice (nat_lt b.line a.line) a b e)
+
+-- four tests find nothing
+pub record NoneFound (a b c d : Option LoadFault) : Type 0 where
+  pub first : a ≡ None
+  pub second : b ≡ None
+  pub third : c ≡ None
+  pub fourth : d ≡ None
+
+pub none_of_four : (a b c d : Option LoadFault) → sooner a (sooner b (sooner c d)) ≡ None → NoneFound a b c d
+none_of_four a b c d e =
+    let one = sooner_neither a (sooner b (sooner c d)) e in
+    let two = sooner_neither b (sooner c d) one.1 in
+    let three = sooner_neither c d two.1 in
+    record { first = one.0; second = two.0; third = three.0; fourth = three.1 }
 
 pub none_soonest : {X : Type 0} (test : X → Option LoadFault) (xs : List X) → soonest test xs ≡ None → AllByRecursion (λ x. test x ≡ None) xs
 none_soonest test [] e = tt

@@ -7,7 +7,7 @@ use Rattle.std.proofs.lemmas.List.{append-nil}
 use Rattle.job_text.specs.declared.job.Job.{Job}
 use Rattle.job_load.specs.declared.fault.LoadFault.{LoadFault}
 use Rattle.job_load.specs.Assembly.{sections_of}
-use Rattle.job_load.specs.Faults.{code_fault, fill_fault, section_fault, sooner, soonest}
+use Rattle.job_load.specs.Faults.{beat_fault, beat_lines, code_fault, fill_fault, place_fault, section_fault, sooner, soonest}
 use Rattle.job_load.specs.Laws.{IsAmong, IsFirst, section_faults}
 
 abbrev Behind : LoadFault → LoadFault → Type 0
@@ -53,6 +53,10 @@ first_of test (x ∷ xs) = first_one (test x) (soonest test xs) (filter_map test
 
 pub first_section : (job : Job) → IsFirst (section_fault job) (section_faults job)
 first_section job =
-    first_join (soonest (code_fault job.numbers) (sections_of job)) (soonest (fill_fault job.numbers) job.fills)
-    (filter_map (code_fault job.numbers) (sections_of job)) (filter_map (fill_fault job.numbers) job.fills)
-    (first_of (code_fault job.numbers) (sections_of job)) (first_of (fill_fault job.numbers) job.fills)
+    let codes = first_of (code_fault job.numbers) (sections_of job) in
+    let fills = first_of (fill_fault job.numbers) job.fills in
+    let places = first_of (place_fault job.numbers) job.tables in
+    let beats = first_of (beat_fault job.version) (beat_lines job.tables) in
+    first_join _ _ (filter_map (code_fault job.numbers) (sections_of job)) _ codes
+    (first_join _ _ (filter_map (fill_fault job.numbers) job.fills) _ fills
+    (first_join _ _ (filter_map (place_fault job.numbers) job.tables) (filter_map (beat_fault job.version) (beat_lines job.tables)) places beats))

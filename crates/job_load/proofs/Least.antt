@@ -5,7 +5,7 @@ use Rattle.std.specs.List.{fold}
 use Rattle.std.proofs.lemmas.Bool.Decides.{nat_tests}
 use Rattle.std.proofs.lemmas.List.{append-nil}
 use Rattle.job_text.specs.declared.job.Job.{Job}
-use Rattle.job_load.specs.Faults.{boards_line, earlier, first_line, unbuilt_line}
+use Rattle.job_load.specs.Faults.{earlier, first_line, unbuilt_line}
 use Rattle.job_load.specs.Laws.{IsIn, IsLeast, line_of, unbuilt_lines}
 
 all_above : (k l : ℕ) (ls : List ℕ) → k ≤ l → AllByRecursion (λ m. l ≤ m) ls → AllByRecursion (λ m. k ≤ m) ls
@@ -62,7 +62,5 @@ least_one (Some line) = (inl refl, (omega arith, tt))
 
 pub least_unbuilt : (job : Job) → IsLeast (unbuilt_line job) (unbuilt_lines job)
 least_unbuilt job =
-    least_join (boards_line job.numbers job.number_lines) _ (line_of (boards_line job.numbers job.number_lines)) _ (least_one (boards_line job.numbers job.number_lines))
-    (least_join (first_line (λ table. table.line) job.tables) _ (map (λ table. table.line) job.tables) _ (least_of (λ table. table.line) job.tables)
-    (least_join (first_line (λ item. item.line) job.script) _ (map (λ item. item.line) job.script) _ (least_of (λ item. item.line) job.script)
-    (least_one (option_map (λ graph. graph.line) job.graph))))
+    least_join (first_line (λ item. item.line) job.script) (option_map (λ graph. graph.line) job.graph) (map (λ item. item.line) job.script) (line_of (option_map (λ graph. graph.line) job.graph))
+    (least_of (λ item. item.line) job.script) (least_one (option_map (λ graph. graph.line) job.graph))

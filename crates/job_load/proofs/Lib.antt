@@ -1,5 +1,6 @@
 pub mod Accepted
 pub mod Assembled
+pub mod Boards
 pub mod Faults
 pub mod First
 pub mod Images

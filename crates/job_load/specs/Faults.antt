@@ -1,23 +1,29 @@
 -- The faults of a job that makes no machine, in the order in which they refuse it.
-use Rattle.std.specs.Prelude.{ℕ, ◌+◌, min, not, List, [], ◌∷◌, length, map, nat_lt, Option, Some, None, option_map, if◌then◌else◌}
-use Rattle.std.specs.List.{reduce}
+use Rattle.std.specs.Prelude.{ℕ, ◌+◌, ◌&&◌, Bool, min, not, List, [], ◌∷◌, length, map, nat_lt, Option, Some, None, option_map, if◌then◌else◌}
+use Rattle.std.specs.List.{flat_map, reduce}
+use Rattle.std.specs.declared.result.Result.{Result}
+use Rattle.std.specs.declared.result.Result.TheVariants.{Ok, Err}
 use Rattle.tn_base.specs.declared.shape.ShapeFault.{ShapeFault}
 use Rattle.tn_base.specs.declared.shape.ShapeFault.TheVariants as number
 use Rattle.tn_base.specs.declared.shape.ShapeNumbers.{ShapeNumbers}
 use Rattle.tn_base.specs.Address.{has_thread, has_tile}
-use Rattle.tn_base.specs.Parts.{board_count}
 use Rattle.tn_base.specs.Shape.{first_fault}
+use Rattle.tn_keys.specs.declared.beat.BeatFault.{BeatFault}
+use Rattle.tn_keys.specs.declared.record.RouteRec.{RouteRec}
+use Rattle.tn_keys.specs.Read.{beat_of}
+use Rattle.job_text.specs.declared.job.BeatLine.{BeatLine}
 use Rattle.job_text.specs.declared.job.CodeSection.{CodeSection}
 use Rattle.job_text.specs.declared.job.FillLine.{FillLine}
 use Rattle.job_text.specs.declared.job.Job.{Job}
 use Rattle.job_text.specs.declared.job.Owner.{Owner}
 use Rattle.job_text.specs.declared.job.Owner.TheVariants as owner
+use Rattle.job_text.specs.declared.job.TableSection.{TableSection}
 use Rattle.job_load.specs.declared.fault.FaultName.{FaultName}
 use Rattle.job_load.specs.declared.fault.FaultName.TheVariants as fault
 use Rattle.job_load.specs.declared.fault.LoadFault.{LoadFault}
 use Rattle.job_load.specs.Assembly.{asms_fault, sections_of}
 use Rattle.job_load.specs.Code.{lacks_code}
-use Rattle.job_load.specs.Names.{name_of_number}
+use Rattle.job_load.specs.Names.{name_of_beat, name_of_number}
 
 abbrev pub fault_at : ℕ → FaultName → LoadFault
 fault_at line kind = record { line = line; kind = kind }
@@ -58,17 +64,9 @@ earlier (Some a) (Some b) = Some (min a b)
 abbrev pub first_line : {X : Type 0} → (X → ℕ) → List X → Option ℕ
 first_line line items = reduce min (map line items)
 
--- the shape's line, where the machine has more than one board
-abbrev pub boards_line : ShapeNumbers → ShapeNumbers → Option ℕ
-boards_line numbers lines = if nat_lt 1 (board_count numbers) then Some (shape_line lines) else None
-
--- the first line that gives what is not there yet: more than one board, a table, a script, or a graph
+-- the first line that gives what is not there yet: a script, or a graph
 abbrev pub unbuilt_line : Job → Option ℕ
-unbuilt_line job =
-    earlier (boards_line job.numbers job.number_lines)
-    (earlier (first_line (λ table. table.line) job.tables)
-    (earlier (first_line (λ item. item.line) job.script)
-    (option_map (λ graph. graph.line) job.graph)))
+unbuilt_line job = earlier (first_line (λ item. item.line) job.script) (option_map (λ graph. graph.line) job.graph)
 
 abbrev pub unbuilt_fault : Job → Option LoadFault
 unbuilt_fault job = option_map (λ line. fault_at line fault.UnsupportedYet) (unbuilt_line job)
@@ -107,8 +105,36 @@ fill_fault n fill =
     else if nat_lt n.mem (fill.address + length fill.bytes) then Some (fault_at fill.line fault.BadFill)
     else None
 
+-- the machine has the board of a table
+abbrev pub has_board : ShapeNumbers → TableSection → Bool
+has_board n table = nat_lt table.x n.boards_x && nat_lt table.y n.boards_y
+
+-- the table of a board that is not there
+abbrev pub place_fault : ShapeNumbers → TableSection → Option LoadFault
+place_fault n table = if has_board n table then None else Some (fault_at table.line fault.BadTable)
+
+-- the beat of 32 bytes in a version, or its first fault
+unfoldable pub beat_from : ℕ → List ℕ → Result (List RouteRec) BeatFault
+beat_from version bytes = beat_of version bytes
+
+abbrev pub fault_of_beat : ℕ → Result (List RouteRec) BeatFault → Option LoadFault
+fault_of_beat line (Ok records) = None
+fault_of_beat line (Err found) = Some (fault_at line (name_of_beat found))
+
+-- bytes that are no beat, at their own line
+abbrev pub beat_fault : ℕ → BeatLine → Option LoadFault
+beat_fault version beat = fault_of_beat beat.line (beat_from version beat.bytes)
+
+-- the beats of all tables
+abbrev pub beat_lines : List TableSection → List BeatLine
+beat_lines tables = flat_map (λ table. table.beats) tables
+
 abbrev pub section_fault : Job → Option LoadFault
-section_fault job = sooner (soonest (code_fault job.numbers) (sections_of job)) (soonest (fill_fault job.numbers) job.fills)
+section_fault job =
+    sooner (soonest (code_fault job.numbers) (sections_of job))
+    (sooner (soonest (fill_fault job.numbers) job.fills)
+    (sooner (soonest (place_fault job.numbers) job.tables)
+    (soonest (beat_fault job.version) (beat_lines job.tables))))
 
 -- 5. A tile without code.
 

@@ -6,8 +6,10 @@ use Rattle.tn_base.specs.Address.{has_thread, tile_threads}
 use Rattle.tn_base.specs.Message.{slot_bytes}
 use Rattle.tn_base.specs.Parts.{tile_at, tile_count}
 use Rattle.tn_base.specs.Shape.{is_shape}
+use Rattle.tn_keys.specs.Accepted.{Accepted}
+use Rattle.tn_router.specs.RouterView.{RouterView}
 use Rattle.tn_rows.specs.Events.{IsWorld}
-use Rattle.tn_rows.specs.PartView.{PartView, TileV, LinkV, AbsentV}
+use Rattle.tn_rows.specs.PartView.{PartView, TileV, RouterV, LinkV, AbsentV}
 use Rattle.tn_rows.specs.WorldView.{WorldView}
 use Rattle.tn_slots.specs.Pool.{fresh}
 use Rattle.tn_tile.specs.TileView.{TileView}
@@ -16,15 +18,20 @@ use Rattle.job_text.specs.declared.job.Job.{Job}
 use Rattle.job_load.specs.declared.fault.LoadFault.{LoadFault}
 use Rattle.job_load.specs.Assembly.{sections_of}
 use Rattle.job_load.specs.Code.{code_of}
-use Rattle.job_load.specs.Faults.{boards_line, code_fault, fill_fault}
+use Rattle.job_load.specs.Faults.{beat_fault, beat_lines, code_fault, fill_fault, has_board, place_fault}
 use Rattle.job_load.specs.Images.{IsWithin, fills_of, memory_of}
 use Rattle.job_load.specs.Start.{start_of}
+use Rattle.job_load.specs.Tables.{tables_of}
 
 -- Faults.
 
 -- the faults of all sections
 abbrev pub section_faults : Job → List LoadFault
-section_faults job = filter_map (code_fault job.numbers) (sections_of job) ++ filter_map (fill_fault job.numbers) job.fills
+section_faults job =
+    filter_map (code_fault job.numbers) (sections_of job)
+    ++ (filter_map (fill_fault job.numbers) job.fills
+    ++ (filter_map (place_fault job.numbers) job.tables
+    ++ filter_map (beat_fault job.version) (beat_lines job.tables)))
 
 abbrev pub IsAmong : LoadFault → List LoadFault → Type 0
 IsAmong f [] = ⊥
@@ -60,11 +67,7 @@ line_of (Some line) = line ∷ []
 
 -- all lines that give what is not there yet
 abbrev pub unbuilt_lines : Job → List ℕ
-unbuilt_lines job =
-    line_of (boards_line job.numbers job.number_lines)
-    ++ (map (λ table. table.line) job.tables
-    ++ (map (λ item. item.line) job.script
-    ++ line_of (option_map (λ graph. graph.line) job.graph)))
+unbuilt_lines job = map (λ item. item.line) job.script ++ line_of (option_map (λ graph. graph.line) job.graph)
 
 abbrev pub IsIn : ℕ → List ℕ → Type 0
 IsIn line [] = ⊥
@@ -77,7 +80,7 @@ IsLeast (Some line) lines = IsIn line lines × AllByRecursion (λ l. line ≤ l)
 
 -- The start.
 
--- nothing has happened on a part
+-- nothing has happened on a tile
 pub record IsFresh (v : TileView) : Type 0 where
   pub pending : v.pending ≡ replicate (tile_threads v.shape) None
   pub pool : v.pool ≡ fresh v.shape.slots (tile_threads v.shape) (slot_bytes v.shape)
@@ -88,8 +91,18 @@ pub record IsFresh (v : TileView) : Type 0 where
   pub free : v.held ≡ false
   pub going : v.ended ≡ None
 
+-- nothing has happened on a router
+pub record IsFreshRouter (v : RouterView) : Type 0 where
+  pub process : v.process ≡ record { up = None; east = None; west = None; south = None; north = None; host = None }
+  pub out : v.out ≡ record { east = None; west = None; south = None; north = None; down = None; host = None }
+  pub counter : v.counter ≡ pos 0
+  pub white : v.black ≡ false
+  pub free : v.held ≡ false
+  pub going : v.ended ≡ None
+
 abbrev pub IsFreshPart : PartView → Type 0
 IsFreshPart (TileV v) = IsFresh v
+IsFreshPart (RouterV v) = IsFreshRouter v
 IsFreshPart (LinkV v) = v.packets ≡ []
 IsFreshPart AbsentV = Unit {0}
 
@@ -100,4 +113,7 @@ pub record IsStart (job : Job) (w : WorldView) : Type 0 where
   pub numbers : IsTrue (is_shape job.numbers)
   pub code : (i : ℕ) → i < tile_count job.numbers → 0 < length (code_of (sections_of job) (tile_at job.numbers i))
   pub fills : AllByRecursion (λ f. IsTrue (has_thread job.numbers f.thread) × IsWithin job.numbers.mem f) job.fills
+  pub boards : AllByRecursion (λ table. IsTrue (has_board job.numbers table)) job.tables
+  pub beats : AllByRecursion (λ beat. beat_fault job.version beat ≡ None) (beat_lines job.tables)
+  pub tables : Accepted job.numbers (tables_of job)
   pub fresh : AllByRecursion IsFreshPart w.parts

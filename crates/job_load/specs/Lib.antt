@@ -7,3 +7,4 @@ pub mod Laws
 pub mod Loaded
 pub mod Names
 pub mod Start
+pub mod Tables

@@ -7,6 +7,7 @@ use Rattle.job_text.specs.declared.job.Job.{Job}
 use Rattle.job_load.specs.declared.fault.LoadFault.{LoadFault}
 use Rattle.job_load.specs.Faults.{asm_fault, missing_fault, number_fault, section_fault, unbuilt_fault}
 use Rattle.job_load.specs.Start.{start_of}
+use Rattle.job_load.specs.Tables.{table_fault}
 
 -- a fault refuses the job before what comes behind it
 abbrev pub unless : Option LoadFault → Result WorldView LoadFault → Result WorldView LoadFault
@@ -21,4 +22,5 @@ loaded job =
     (unless (asm_fault job)
     (unless (section_fault job)
     (unless (missing_fault job)
-    (Ok (start_of job))))))
+    (unless (table_fault job)
+    (Ok (start_of job)))))))

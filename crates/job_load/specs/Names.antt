@@ -5,6 +5,10 @@ use Rattle.tn_base.specs.declared.shape.ShapeFault.TheVariants as number
 use Rattle.asm_text.specs.declared.fault.AsmFault.{AsmFault}
 use Rattle.asm_text.specs.declared.fault.AsmKind.{AsmKind}
 use Rattle.asm_text.specs.declared.fault.AsmKind.TheVariants as asm
+use Rattle.tn_keys.specs.declared.beat.BeatFault.{BeatFault}
+use Rattle.tn_keys.specs.declared.beat.BeatFault.TheVariants as beat
+use Rattle.tn_keys.specs.declared.fault.TableFault.{TableFault}
+use Rattle.tn_keys.specs.declared.fault.TableFault.TheVariants as table
 use Rattle.job_text.specs.declared.job.JobKind.{JobKind}
 use Rattle.job_text.specs.declared.job.JobKind.TheVariants as text
 use Rattle.job_load.specs.declared.fault.FaultName.{FaultName}
@@ -49,6 +53,23 @@ name_of_asm asm.TooMany = fault.TooMany
 
 abbrev pub fault_of_asm : AsmFault → LoadFault
 fault_of_asm found = record { line = found.line; kind = name_of_asm found.kind }
+
+-- bytes that are no beat
+abbrev pub name_of_beat : BeatFault → FaultName
+name_of_beat beat.Count = fault.Count
+name_of_beat beat.Tag = fault.Tag
+name_of_beat beat.Chunk = fault.Chunk
+name_of_beat beat.Unused = fault.Unused
+name_of_beat beat.AfterInd = fault.AfterInd
+
+-- a table that leads nowhere, or too far
+abbrev pub name_of_table : TableFault → FaultName
+name_of_table table.OffMachine = fault.OffMachine
+name_of_table table.BadThread = fault.BadThread
+name_of_table table.EmptyMask = fault.EmptyMask
+name_of_table table.KeyRange = fault.KeyRange
+name_of_table table.Loop = fault.Loop
+name_of_table table.TooWide = fault.TooWide
 
 -- a name as it is printed
 abbrev pub fault_text : FaultName → List ℕ

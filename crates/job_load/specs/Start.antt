@@ -6,7 +6,9 @@ use Rattle.tn_base.specs.declared.part.Kind.TheVariants as kind
 use Rattle.tn_base.specs.declared.shape.ShapeNumbers.{ShapeNumbers}
 use Rattle.tn_base.specs.Address.{has_tile, in_tile, tile_threads}
 use Rattle.tn_base.specs.Parts.{parts}
-use Rattle.tn_rows.specs.PartView.{PartView, TileV, LinkV, AbsentV}
+use Rattle.tn_keys.specs.Tables.{HasBoard}
+use Rattle.tn_router.specs.Kept.{fresh_router}
+use Rattle.tn_rows.specs.PartView.{PartView, TileV, RouterV, LinkV, AbsentV}
 use Rattle.tn_rows.specs.WorldView.{WorldView}
 use Rattle.tn_thread.specs.declared.thread.Thread.{Thread}
 use Rattle.tn_thread.specs.Step.{started}
@@ -16,6 +18,7 @@ use Rattle.job_text.specs.declared.job.Job.{Job}
 use Rattle.job_load.specs.Assembly.{sections_of}
 use Rattle.job_load.specs.Code.{code_of}
 use Rattle.job_load.specs.Images.{image_at, memory_of}
+use Rattle.job_load.specs.Tables.{table_for}
 
 -- the threads of a tile by ascending address, each as its address says
 abbrev pub by_address : (ℕ → Thread) → ShapeNumbers → ℕ → List Thread
@@ -33,11 +36,11 @@ thread_over n images thread = started n (record { 0 = thread }) (image_at images
 abbrev pub tile_start : Job → ℕ → TileView
 tile_start job tile = fresh_tile job.numbers tile (code_of (sections_of job) tile) (by_address (thread_start job) job.numbers tile)
 
--- a part at its start: a tile, or a link without packets. The others are not there yet
+-- a part at its start: a tile, a router over its table, or a link without packets. The others are not there yet
 abbrev pub part_start : Job → Kind → PartView
 part_start job (kind.Tile tile) = TileV (tile_start job tile.0)
 part_start job kind.Host = AbsentV
-part_start job (kind.Router board) = AbsentV
+part_start job (kind.Router board) = RouterV (fresh_router job.numbers board (table_for job board))
 part_start job (kind.Link from onto) = LinkV (record { packets = []; capacity = job.numbers.link })
 part_start job kind.Detector = AbsentV
 
@@ -45,10 +48,10 @@ part_start job kind.Detector = AbsentV
 abbrev pub start_of : Job → WorldView
 start_of job = record { shape = job.numbers; parts = map (part_start job) (parts job.numbers) }
 
--- where the kind is that of a tile, the machine has it
-abbrev pub NamesTile : ShapeNumbers → Kind → Type 0
-NamesTile n (kind.Tile tile) = IsTrue (has_tile n tile.0)
-NamesTile n kind.Host = Unit {0}
-NamesTile n (kind.Router board) = Unit {0}
-NamesTile n (kind.Link from onto) = Unit {0}
-NamesTile n kind.Detector = Unit {0}
+-- where the kind names a tile or a board, the machine has it
+abbrev pub IsThere : ShapeNumbers → Kind → Type 0
+IsThere n (kind.Tile tile) = IsTrue (has_tile n tile.0)
+IsThere n kind.Host = Unit {0}
+IsThere n (kind.Router board) = HasBoard n board
+IsThere n (kind.Link from onto) = Unit {0}
+IsThere n kind.Detector = Unit {0}

@@ -1,12 +1,14 @@
 //! Why a job makes no machine.
 
 ghost use Rattle.std.specs.Prelude.{◌≡◌};
-ghost use Rattle.job_load.specs.Names.{fault_of_asm, fault_text, name_of_asm, name_of_number, name_of_text};
+ghost use Rattle.job_load.specs.Names.{fault_of_asm, fault_text, name_of_asm, name_of_beat, name_of_number, name_of_table, name_of_text};
 
 use asm_text::fault::{AsmFault, AsmKind};
 use job_text::job::JobKind;
 use std::alloc::AllocError;
 use tn_base::shape::ShapeFault;
+use tn_keys::beat::BeatFault;
+use tn_keys::fault::TableFault;
 
 /// The name of a fault of a job, wherever it is found. A name that several parts of a job have stands once.
 #[derive(Clone, Copy, PartialEq, Eq, Debug)]
@@ -156,6 +158,33 @@ impl FaultName {
             AsmKind::Twice => FaultName::Twice,
             AsmKind::NoLabel => FaultName::NoLabel,
             AsmKind::TooMany => FaultName::TooMany,
+        }
+    }
+
+    /// The name of a fault for which bytes are no beat.
+    pub fn of_beat(fault: BeatFault) -> FaultName
+        ensures { result ≡ name_of_beat fault }
+    {
+        match fault {
+            BeatFault::Count => FaultName::Count,
+            BeatFault::Tag => FaultName::Tag,
+            BeatFault::Chunk => FaultName::Chunk,
+            BeatFault::Unused => FaultName::Unused,
+            BeatFault::AfterInd => FaultName::AfterInd,
+        }
+    }
+
+    /// The name of a fault of a table.
+    pub fn of_table(fault: TableFault) -> FaultName
+        ensures { result ≡ name_of_table fault }
+    {
+        match fault {
+            TableFault::OffMachine => FaultName::OffMachine,
+            TableFault::BadThread => FaultName::BadThread,
+            TableFault::EmptyMask => FaultName::EmptyMask,
+            TableFault::KeyRange => FaultName::KeyRange,
+            TableFault::Loop => FaultName::Loop,
+            TableFault::TooWide => FaultName::TooWide,
         }
     }
 

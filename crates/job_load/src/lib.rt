@@ -1,7 +1,7 @@
 //! From a job to its machine at the start, or to the first fault.
 //!
-//! The faults in their order stand in `specs/Faults.antt`, the start in `specs/Start.antt`, what sections of assembly give
-//! in `specs/Assembly.antt`. Read `load::load` first.
+//! The faults in their order stand in `specs/Faults.antt`, those of tables in `specs/Tables.antt`, the start in
+//! `specs/Start.antt`, what sections of assembly give in `specs/Assembly.antt`. Read `load::load` first.
 #![tactic(auto)]
 
 pub mod assembly;
@@ -13,6 +13,9 @@ pub mod load;
 mod numbers;
 mod sections;
 mod start;
+#[cfg(test)]
+mod table_tests;
+mod tables;
 #[cfg(test)]
 mod tests;
 mod unbuilt;

@@ -1,12 +1,14 @@
-//! Sections that name what the machine does not have.
+//! Sections that name what the machine does not have, and beats that are none.
 
-ghost use Rattle.std.specs.Prelude.{◌≡◌, map};
+ghost use Rattle.std.specs.Prelude.{◌≡◌, ◌⊎◌, map};
 ghost use Rattle.job_load.specs.Assembly.{as_code};
-ghost use Rattle.job_load.specs.Faults.{code_fault, fill_fault, owner_fault, section_fault, sooner, soonest};
+ghost use Rattle.job_load.specs.Faults.{beat_fault, beat_from, beat_lines, code_fault, fault_of_beat, fill_fault, owner_fault, place_fault, section_fault, sooner, soonest};
+ghost use Rattle.job_text.specs.WellFormed.{IsWellFormed};
 
 use crate::fault::{FaultName, LoadFault};
 use crate::numbers::fault_at;
-use job_text::job::{CodeSection, FillLine, Job, Owner};
+use crate::tables::beat_from;
+use job_text::job::{CodeSection, FillLine, Job, Owner, TableSection};
 use tn_base::ids::{ThreadId, TileId};
 use tn_base::shape::Shape;
 
@@ -47,6 +49,29 @@ fn fill_fault(shape: &Shape, fill: &FillLine) -> Option<LoadFault>
     None
 }
 
+/// The table of a board that is not there.
+fn place_fault(shape: &Shape, table: &TableSection) -> Option<LoadFault>
+    ensures { result ≡ place_fault shape.now table.now }
+{
+    let n = shape.numbers();
+    if table.x < n.boards_x && table.y < n.boards_y {
+        None
+    } else {
+        Some(fault_at(table.line, FaultName::BadTable))
+    }
+}
+
+/// Bytes of a line that are no beat.
+fn beat_fault(version: u32, line: u32, bytes: &[u8; 32]) -> Option<LoadFault>
+    requires { (version ≡ 1) ⊎ (version ≡ 2) }
+    ensures { result ≡ fault_of_beat line (beat_from version bytes.now) }
+{
+    match beat_from(version, bytes) {
+        Ok(_) => None,
+        Err(fault) => Some(fault_at(line, FaultName::of_beat(fault))),
+    }
+}
+
 fn first_code_fault(shape: &Shape, sections: &[CodeSection]) -> Option<LoadFault>
     ensures { result ≡ soonest (code_fault shape.now) sections.now }
 {
@@ -67,14 +92,50 @@ fn first_fill_fault(shape: &Shape, fills: &[FillLine]) -> Option<LoadFault>
     first
 }
 
-/// The first section, in order of lines, that names what the machine does not have.
+fn first_place_fault(shape: &Shape, tables: &[TableSection]) -> Option<LoadFault>
+    ensures { result ≡ soonest (place_fault shape.now) tables.now }
+{
+    let mut first = None;
+    for table in tables {
+        first = sooner(first, place_fault(shape, table));
+    }
+    first
+}
+
+fn first_fault_of(version: u32, table: &TableSection) -> Option<LoadFault>
+    requires { (version ≡ 1) ⊎ (version ≡ 2) }
+    ensures { result ≡ soonest (beat_fault version) table.now.beats }
+{
+    let mut first = None;
+    for beat in table.beats.as_slice() {
+        first = sooner(first, beat_fault(version, beat.line, &beat.bytes));
+    }
+    first
+}
+
+fn first_beat_fault(version: u32, tables: &[TableSection]) -> Option<LoadFault>
+    requires { (version ≡ 1) ⊎ (version ≡ 2) }
+    ensures { result ≡ soonest (beat_fault version) (beat_lines tables.now) }
+{
+    let mut first = None;
+    for table in tables {
+        first = sooner(first, first_fault_of(version, table));
+    }
+    first
+}
+
+/// The first section, in order of lines, that names what the machine does not have, or the first beat that is none.
 pub(crate) fn section_fault(shape: &Shape, job: &Job, asms: &[CodeSection]) -> Option<LoadFault>
     requires numbers { shape.now ≡ job.now.numbers }
     requires asms { asms.now ≡ map as_code job.now.asms }
+    requires formed { IsWellFormed job.now }
     ensures { result ≡ section_fault job.now }
 {
     let codes = first_code_fault(shape, job.codes.as_slice());
     let asms = first_code_fault(shape, asms);
     let fills = first_fill_fault(shape, job.fills.as_slice());
-    sooner(sooner(codes, asms), fills)
+    let boards = first_place_fault(shape, job.tables.as_slice());
+    let beats = first_beat_fault(job.version, job.tables.as_slice());
+    let named = sooner(fills, sooner(boards, beats));
+    sooner(sooner(codes, asms), named)
 }

@@ -3,13 +3,15 @@
 ghost use Rattle.std.specs.Prelude.{◌≡◌, ◌≤◌, ℕ, IfOk, IsTrue, None, length, map};
 ghost use Rattle.tn_base.specs.Address.{has_tile};
 ghost use Rattle.tn_base.specs.Parts.{parts, tile_at, tile_count};
+ghost use Rattle.job_text.specs.WellFormed.{IsWellFormed};
 ghost use Rattle.job_load.specs.Assembly.{as_code};
 ghost use Rattle.job_load.specs.Faults.{section_fault};
 ghost use Rattle.job_load.specs.Images.{AreImages, image_at};
-ghost use Rattle.job_load.specs.Start.{NamesTile, by_address, part_start, start_of, thread_over, tile_start};
+ghost use Rattle.job_load.specs.Start.{IsThere, by_address, part_start, start_of, thread_over, tile_start};
 
 use crate::code::code_of;
 use crate::image::Images;
+use crate::tables::table_for;
 use job_text::job::{CodeSection, Job};
 use std::alloc::{AllocError, Global};
 use tn_base::ids::{PartId, TileId};
@@ -17,6 +19,7 @@ use tn_base::laws::law_tiles;
 use tn_base::part::Kind;
 use tn_base::shape::Shape;
 use tn_link::plain::PlainLink;
+use tn_router::router::Router;
 use tn_thread::thread::Thread;
 use tn_tile::tile::Tile;
 use tn_world::part::Part;
@@ -77,8 +80,9 @@ fn part_of(
     asms: &[CodeSection],
     kind: Kind,
 ) -> Result<Part<PlainLink>, AllocError>
-    requires kind { NamesTile shape.now kind }
+    requires kind { IsThere shape.now kind }
     requires numbers { shape.now ≡ job.now.numbers }
+    requires formed { IsWellFormed job.now }
     requires images { AreImages shape.now.mem job.now.fills images.now }
     requires asms { asms.now ≡ map as_code job.now.asms }
     ensures { IfOk result (λ part. part ≡ part_start job.now kind) }
@@ -86,7 +90,11 @@ fn part_of(
     match kind {
         Kind::Tile(tile) => Ok(Part::tile(tile_of(alloc, shape, images, job, asms, tile)?)),
         Kind::Link { .. } => Ok(Part::link(PlainLink::of(alloc, shape.numbers().link)?)),
-        Kind::Host | Kind::Router(_) | Kind::Detector => Ok(Part::absent()),
+        Kind::Router(board) => {
+            let beats = table_for(alloc, job, board)?;
+            Ok(Part::router(Router::of(shape, board, beats)))
+        }
+        Kind::Host | Kind::Detector => Ok(Part::absent()),
     }
 }
 
@@ -99,6 +107,7 @@ fn parts_of(
     asms: &[CodeSection],
 ) -> Result<Vec<Part<PlainLink>>, AllocError>
     requires numbers { shape.now ≡ job.now.numbers }
+    requires formed { IsWellFormed job.now }
     requires images { AreImages shape.now.mem job.now.fills images.now }
     requires asms { asms.now ≡ map as_code job.now.asms }
     ensures { IfOk result (λ all. all.items ≡ map (part_start job.now) (parts shape.now)) }
@@ -122,6 +131,7 @@ pub(crate) fn start_of(
 ) -> Result<World<PlainLink>, AllocError>
     requires numbers { shape.now ≡ job.now.numbers }
     requires asms { asms.now ≡ map as_code job.now.asms }
+    requires formed { IsWellFormed job.now }
     requires sections { section_fault job.now ≡ None }
     ensures { IfOk result (λ world. world ≡ start_of job.now) }
 {

@@ -21,7 +21,11 @@ use tn_world::events::step;
 use tn_world::world::World;
 
 /// The machine of the job that a text says, or why there is none.
-fn load_text<H: Abort>(rt: &H, alloc: Global, text: &[u8]) -> Result<World<PlainLink>, LoadStop> {
+pub(crate) fn load_text<H: Abort>(
+    rt: &H,
+    alloc: Global,
+    text: &[u8],
+) -> Result<World<PlainLink>, LoadStop> {
     assert!(rt; text.len() < 4000);
     law_line_count(text);
     match read_job(alloc, text) {
@@ -31,7 +35,7 @@ fn load_text<H: Abort>(rt: &H, alloc: Global, text: &[u8]) -> Result<World<Plain
 }
 
 /// The machine of the job that a text says.
-fn world_of<H: Abort>(rt: &H, alloc: Global, text: &[u8]) -> World<PlainLink> {
+pub(crate) fn world_of<H: Abort>(rt: &H, alloc: Global, text: &[u8]) -> World<PlainLink> {
     match load_text(rt, alloc, text) {
         Ok(world) => world,
         Err(_) => panic!(rt; "no machine"),
@@ -42,7 +46,7 @@ fn world_of<H: Abort>(rt: &H, alloc: Global, text: &[u8]) -> World<PlainLink> {
 fn tile_of<'a, H: Abort>(rt: &H, world: &'a World<PlainLink>) -> &'a Tile {
     match world.parts() {
         [host, tile, router, up, down, to_host, from_host, detector] => {
-            assert!(rt; host.as_tile().is_none() && router.as_tile().is_none());
+            assert!(rt; host.as_tile().is_none() && router.as_router().is_some());
             for link in [up, down, to_host, from_host] {
                 assert!(rt; link.as_tile().is_none());
                 assert!(rt; link.as_link().is_some_and(|l| l.len() == 0));
@@ -76,7 +80,7 @@ fn starts_over<H: Abort>(
 }
 
 /// Texts with the line and the name of what refuses them.
-const REFUSED: [(&[u8], u32, FaultName); 58] = [
+const REFUSED: [(&[u8], u32, FaultName); 56] = [
     // Each number, below and above.
     (b"tinsel 1\nshape 0 1 1 1 1 1\n", 2, FaultName::Boards),
     (b"tinsel 1\nshape 1 5 1 1 1 1\n", 2, FaultName::Boards),
@@ -130,7 +134,7 @@ const REFUSED: [(&[u8], u32, FaultName); 58] = [
     (
         b"tinsel 1\nshape 4 4 4 1 4 16\nmem 65536\n",
         2,
-        FaultName::UnsupportedYet,
+        FaultName::NoCode,
     ),
     // The numbers in their own order, and not in that of lines.
     (
@@ -153,20 +157,13 @@ const REFUSED: [(&[u8], u32, FaultName); 58] = [
         2,
         FaultName::Cores,
     ),
-    // What is not there yet.
+    // More than one tile and more than one board are there: one lacks code.
+    (b"tinsel 2\n\nshape 1 2 1 2 1 1\n", 3, FaultName::NoCode),
     (
-        b"tinsel 1\nshape 2 1 1 1 1 1\ncode all\n80b01073\nend\ntable 0 0\n\
-          0100220000000000000000000000000000000000000000000000000000000000\nend\ntable 1 0\n\
-          01002a0000000000000000000000000000000000000000000000000000000000\nend\n",
+        b"tinsel 1\nshape 2 1 1 1 1 1\ncode 0\n80b01073\nend\n",
         2,
-        FaultName::UnsupportedYet,
+        FaultName::NoCode,
     ),
-    (
-        b"tinsel 2\n\nshape 1 2 1 2 1 1\n",
-        3,
-        FaultName::UnsupportedYet,
-    ),
-    // More than one tile is there: this one lacks code.
     (
         b"tinsel 1\nshape 1 1 2 1 1 1\ncode 64\n80b01073\nend\n",
         2,
@@ -177,11 +174,7 @@ const REFUSED: [(&[u8], u32, FaultName); 58] = [
         5,
         FaultName::BadTile,
     ),
-    (
-        b"tinsel 1\nshape 1 1 1 1 1 1\ntable 0 0\nend\n",
-        3,
-        FaultName::UnsupportedYet,
-    ),
+    // What is not there yet.
     (
         b"tinsel 1\nshape 1 1 1 1 1 1\nfuel 9\nhost idle\n",
         4,
@@ -211,11 +204,6 @@ const REFUSED: [(&[u8], u32, FaultName); 58] = [
     (
         b"tinsel 1\nshape 1 1 1 1 1 1\nfill 0 0 00\ngraph 1 1\nend\ntable 0 0\nend\n",
         4,
-        FaultName::UnsupportedYet,
-    ),
-    (
-        b"tinsel 1\nshape 1 1 1 1 1 1\ntable 0 0\nend\ngraph 1 1\nend\n",
-        3,
         FaultName::UnsupportedYet,
     ),
     // The numbers come before it, and it comes before the sections, whatever their lines.

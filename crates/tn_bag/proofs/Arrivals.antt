@@ -1,6 +1,9 @@
 -- What the calls that spell a history read of a machine whose next event is enabled.
 use Rattle.std.specs.Prelude.{MatchOption, option_and_then, option_copied}
 use Rattle.std.specs.List.{slice_get}
+use Rattle.std.specs.Prelude.{OnOk}
+use Rattle.std.specs.declared.result.Result.{Result}
+use Rattle.std.specs.declared.result.Result.TheVariants.{Ok, Err}
 use Rattle.std.proofs.Common.{ℕ, ◌≡◌, Bool, Bor, true, false, refl, sym, ◌∙◌, ap, Option, Some, None, is_some, option_map, unwrap_or}
 use Rattle.tn_base.specs.declared.event.Event.{Event}
 use Rattle.tn_base.specs.declared.event.Event.TheVariants as event
@@ -13,11 +16,11 @@ use Rattle.tn_tile.specs.Rows.{accept_row}
 use Rattle.tn_tile.specs.TileView.{TileView}
 use Rattle.tn_tile.proofs.Packets.{accepts}
 use Rattle.tn_rows.specs.Events.{after, carried, happened, happened_at, met_by, met_with, meets, meets_at, with_both}
-use Rattle.tn_rows.specs.PartView.{PartView, TileV, LinkV, AbsentV, tile_of}
+use Rattle.tn_rows.specs.PartView.{PartView, TileV, RouterV, LinkV, AbsentV, tile_of}
 use Rattle.tn_rows.specs.Places.{leads_to, two_if}
 use Rattle.tn_rows.specs.WorldView.{WorldView}
 use Rattle.tn_bag.specs.Steps.{arrival_steps, delivery_steps, event_steps, steps_at}
-use Rattle.tn_bag.specs.Tiles.{no_reach}
+use Rattle.tn_bag.specs.Tiles.{reach_of}
 
 -- ---- a packet that arrives
 
@@ -34,6 +37,7 @@ met_low None b e = cc e
 read_tile : (o : Option PartView) (v : TileView) → option_and_then tile_of o ≡ Some v → o ≡ Some (TileV v)
 read_tile None v e = cc e
 read_tile (Some (TileV u)) v e = ap (λ (x : Option TileView). Some (TileV (unwrap_or x v))) e
+read_tile (Some (RouterV x)) v e = cc e
 read_tile (Some (LinkV x)) v e = cc e
 read_tile (Some AbsentV) v e = cc e
 
@@ -68,8 +72,13 @@ pub front_fits : (w : WorldView) (l p : PartId) (v : TileView) (r : Option (Bor 
 front_fits w l p v None a e = tt
 front_fits w l p v (Some k) a e = high_there l p v (slice_get w.parts l.0) k.now (sym e) a.meets
 
-pub arrival_is : (w : WorldView) (l p : PartId) (v : TileView) (o : Option Packet) → Arrives w l p v → o ≡ option_and_then carried (slice_get w.parts l.0) → delivery_steps no_reach o v ≡ event_steps (event.Arrive l p) w
+pub arrival_is : (w : WorldView) (l p : PartId) (v : TileView) (o : Option Packet) → Arrives w l p v → o ≡ option_and_then carried (slice_get w.parts l.0) → delivery_steps (reach_of w) o v ≡ event_steps (event.Arrive l p) w
 arrival_is w l p v o a e =
-    ap (λ x. delivery_steps no_reach x v) e
-    ∙ (ap (λ low. arrival_steps no_reach (option_and_then carried (slice_get w.parts l.0)) low) (sym a.low)
+    ap (λ x. delivery_steps (reach_of w) x v) e
+    ∙ (ap (λ low. arrival_steps (reach_of w) (option_and_then carried (slice_get w.parts l.0)) low) (sym a.low)
     ∙ ap (λ b. steps_at (event.Arrive l p) w (two_if b p.0 l.0)) (sym a.leads))
+
+-- what a call that had memory did, read otherwise
+pub on_ok : {T E P Q : Type 0} (r : Result T E) → (P → Q) → OnOk r P → OnOk r Q
+on_ok (Ok x) f h = f h
+on_ok (Err e) f h = h

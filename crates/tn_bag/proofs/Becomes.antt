@@ -11,15 +11,18 @@ use Rattle.tn_slots.specs.WellKept.{WellKept}
 use Rattle.tn_tile.specs.Kept.{WellShaped}
 use Rattle.tn_tile.specs.Step.{no_thread, thread_at}
 use Rattle.tn_tile.specs.TileView.{TileView}
+use Rattle.tn_rows.specs.Events.{with_part}
+use Rattle.tn_rows.specs.PartView.{TileV, LinkV}
 use Rattle.tn_rows.specs.WorldView.{WorldView}
 use Rattle.tn_bag.specs.declared.steps.BagStep.TheVariants as bag
 use Rattle.tn_bag.specs.Law.{dropped_in}
-use Rattle.tn_bag.specs.Letters.{Reach}
+use Rattle.tn_bag.specs.Letters.{board_of, link_board}
+use Rattle.tn_keys.specs.Reach.{Reach}
 use Rattle.tn_bag.specs.Standing.{standing_letters}
 use Rattle.tn_bag.specs.State.{Agree}
 use Rattle.tn_bag.specs.Tiles.{held_in, held_of, part_for, program_of, reach_of, thread_of}
-use Rattle.tn_bag.proofs.Lift.{Good, On, OnLink, good_lift, lift_same, program_stays, tile_is, tile_stands, with_tile}
-use Rattle.tn_bag.proofs.Links.{dropped_past, good_past, link_beside, link_stands, program_past, tile_past, with_link}
+use Rattle.tn_bag.proofs.Lift.{Good, HomeLink, HomeTile, On, OnLink, good_lift, lift_same, program_stays, tile_is, tile_on, tile_stands, with_tile}
+use Rattle.tn_bag.proofs.Links.{Shifts, link_shifts, shifted, shifts_beside, two_parts}
 use Rattle.tn_bag.proofs.Runs.{ForDead, discards, run_before}
 use Rattle.tn_bag.proofs.Simulate.{Reached, dropped_after, shown}
 use Rattle.tn_bag.proofs.Weights.{link_w, packet_w, same_bag, tile_w}
@@ -87,11 +90,12 @@ pub record Drops (w : WorldView) (v new : TileView) (ls : List Letter) (came gon
   pub shaped : WellShaped new
   pub kept : WellKept new.pool
   pub dropped : new.dropped ≡ v.dropped + length ls
+  pub home : HomeTile (board_of new.tile) new.pending new.transit
 
 good_after : (w : WorldView) (p : ℕ) (v new : TileView) (ls : List Letter) (came gone : (Letter → ℕ) → ℕ) → Good w → On w p v → Drops w v new ls came gone → Good (with_tile w p new)
 good_after w p v new ls came gone good on d =
-    let t = good.each p v on in
-    good_lift w p v new good on (record { shape = d.shape ∙ t.shape; shaped = d.shaped; kept = d.kept; part = ap (λ x. tile_part (tile_place w.shape x)) d.tile ∙ t.part })
+    let t = tile_on w p v good on in
+    good_lift w p v new good on (record { shape = d.shape ∙ t.shape; shaped = d.shaped; kept = d.kept; part = ap (λ x. tile_part (tile_place w.shape x)) d.tile ∙ t.part; home = d.home })
 
 -- an event on one tile
 pub tile_becomes : (w : WorldView) (p : ℕ) (v new : TileView) (ls : List Letter) → Good w → On w p v → Drops w v new ls nothing nothing → Becomes w (with_tile w p new) ls
@@ -111,24 +115,26 @@ tile_becomes w p v new ls good on d = record {
 }
 
 -- an event on a tile and a link: what the one gains, the other loses
-pub pair_becomes : (w : WorldView) (p q : ℕ) (v new : TileView) (x y : LinkView) (ls : List Letter) (came gone : (Letter → ℕ) → ℕ) → Good w → On w p v → OnLink w q x → Drops w v new ls came gone →
-    ((f : Letter → ℕ) → came f + link_w f w.shape (reach_of w) y ≡ gone f + link_w f w.shape (reach_of w) x) → Becomes w (with_link (with_tile w p new) q y) ls
-pair_becomes w p q v new x y ls came gone good on off d between =
+pub pair_becomes : (w : WorldView) (p q : ℕ) (v new : TileView) (x y : LinkView) (ls : List Letter) (came gone : (Letter → ℕ) → ℕ) → Good w → On w p v → OnLink w q x → Drops w v new ls came gone → HomeLink w.shape q y →
+    ((f : Letter → ℕ) → came f + link_w f (link_board w.shape q) w.shape (reach_of w) y ≡ gone f + link_w f (link_board w.shape q) w.shape (reach_of w) x) → Becomes w (with_part (with_tile w p new) q (LinkV y)) ls
+pair_becomes w p q v new x y ls came gone good on off d home between =
     let mid : WorldView = with_tile w p new in
-    let beside : OnLink mid q x = link_beside w p q v new x on off in
+    let link : Shifts w q (LinkV x) (LinkV y) gone came = link_shifts w q x y gone came good off home (λ f. sym (between f)) in
+    let apart = two_parts w p q (TileV v) (LinkV x) on off (λ e. cc e) in
+    let second = shifted mid q (LinkV x) (LinkV y) gone came (good_after w p v new ls came gone good on d) (shifts_beside w p q (TileV v) (TileV new) (LinkV x) (LinkV y) gone came apart on refl link) in
     record {
-      threads = λ b h. lift_same thread_at w p v new on (λ j u. ap (λ ts. get_or ts j no_thread) d.threads) b h ∙ sym (ap (λ t. thread_at t (place_in_tile w.shape b)) (tile_past mid q x y b beside));
-      held = λ b slot h. ap (λ (z : ℕ → Option Letter). z slot) (lift_same held_in w p v new on (λ j u. d.holds j) b h) ∙ sym (ap (λ t. held_in t (place_in_tile w.shape b) slot) (tile_past mid q x y b beside));
+      threads = λ b h. lift_same thread_at w p v new on (λ j u. ap (λ ts. get_or ts j no_thread) d.threads) b h ∙ second.threads b h;
+      held = λ b slot h. ap (λ (z : ℕ → Option Letter). z slot) (lift_same held_in w p v new on (λ j u. d.holds j) b h) ∙ second.held b slot;
       letters = λ f.
           let a = d.weighs f in
           let b = tile_stands f w p v new (gone f + sum_by f ls) (came f) on (omega arith) in
-          let c = link_stands f mid q x y (came f) (gone f) beside (between f) in
+          let c = second.letters f in
           omega arith;
-      good = good_past mid q x y (good_after w p v new ls came gone good on d) beside;
-      program = program_past mid q x y beside ∙ program_stays w p v new on d.code;
+      good = second.good;
+      program = second.program ∙ program_stays w p v new on d.code;
       count =
           let a = dropped_after w p v new on in
-          let b = dropped_past mid q x y beside in
+          let b = second.count in
           let m = d.dropped in
           omega arith;
     }

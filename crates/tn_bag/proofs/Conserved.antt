@@ -10,7 +10,8 @@ use Rattle.tn_base.specs.declared.op.Op.TheVariants as op
 use Rattle.tn_bag.specs.declared.steps.BagStep.{BagStep}
 use Rattle.tn_bag.specs.declared.steps.BagStep.TheVariants as bag
 use Rattle.tn_bag.specs.Conserved.{EveryRunConserves, EveryRunHands, handed_to, leaving, sending, sent_in, sent_with}
-use Rattle.tn_bag.specs.Letters.{Takes, only_if}
+use Rattle.tn_keys.specs.Copies.{only_if}
+use Rattle.tn_bag.specs.Letters.{Takes}
 use Rattle.tn_bag.specs.Machine.{BagRun, Happens, ended_by, own_step, sent_by, with_own_step}
 use Rattle.tn_bag.specs.State.{BagState, Program}
 

@@ -21,11 +21,12 @@ use Rattle.tn_tile.specs.TileView.{TileView}
 use Rattle.tn_rows.specs.WorldView.{WorldView}
 use Rattle.tn_bag.specs.declared.steps.BagStep.{BagStep}
 use Rattle.tn_bag.specs.declared.steps.BagStep.TheVariants as bag
-use Rattle.tn_bag.specs.Letters.{letters, packet_letters}
+use Rattle.tn_bag.specs.Letters.{board_of, letters, packet_letters}
 use Rattle.tn_bag.specs.State.{BagState}
 use Rattle.tn_bag.specs.Tiles.{held_in, part_for, reach_of, sender_at, thread_of}
 use Rattle.tn_bag.proofs.Becomes.{Becomes, Drops, becomes_reached, nothing, of_packet, threads_stay, tile_becomes}
-use Rattle.tn_bag.proofs.Lift.{GoodTile, with_tile}
+use Rattle.tn_bag.proofs.Homes.{AtHome, home_same, home_sent, home_way}
+use Rattle.tn_bag.proofs.Lift.{GoodTile, HomeTile, Homed, with_tile}
 use Rattle.tn_bag.proofs.Runs.{ForDead}
 use Rattle.tn_bag.proofs.Weights.{packet_w, tile_w}
 use Rattle.std.proofs.Common.{ℕ, ◌+◌, ◌^◌, ◌%◌, ◌<◌, ◌≤◌, ◌≡◌, ◌⊎◌, ◌==◌, Bool, true, false, cond, List, [], ◌∷◌, ◌++◌, length, get_or, set, map, zero, suc, refl, sym, ◌∙◌, ap, subst, inl, inr, arith, Option, Some, None, is_none, unwrap_or, IsTrue, sum_by}
@@ -56,7 +57,9 @@ use Rattle.tn_tile.proofs.Dead.{dead_at, dead_below, dead_bit}
 use Rattle.tn_tile.proofs.Packed.{few_places, one_place, packed_below}
 use Rattle.tn_tile.proofs.Packets.{packet_fits}
 use Rattle.tn_tile.proofs.Shaped.{notes_shaped, pending_shaped, put_shaped, transit_shaped}
-use Rattle.tn_bag.specs.Letters.{Reach, letter, only_if}
+use Rattle.tn_keys.specs.Copies.{only_if}
+use Rattle.tn_keys.specs.Reach.{Reach}
+use Rattle.tn_bag.specs.Letters.{letter}
 use Rattle.tn_tile.proofs.Steps.{taken}
 use Rattle.tn_bag.specs.Steps.{delivery_steps, dropped_at, is_for_dead}
 use Rattle.tn_bag.proofs.Holding.{no_sender, stored_held}
@@ -93,9 +96,9 @@ buffer_more f n reach port.Down p b out e = absurd out
 buffer_more f n reach port.HostPort p b out e = absurd out
 buffer_more f n reach port.Here p b out e = absurd out
 
-on_drops : (w : WorldView) (v : TileView) (packet : Packet) (way : Port) → WellShaped v → WellKept v.pool → IsTrue (has_packet v.shape packet) → IsOut way → buffer_at way v.transit ≡ None →
+on_drops : (w : WorldView) (v : TileView) (packet : Packet) (way : Port) → WellShaped v → WellKept v.pool → IsTrue (has_packet v.shape packet) → IsOut way → buffer_at way v.transit ≡ None → HomeTile (board_of v.tile) v.pending v.transit → Homed (board_of v.tile) packet →
     Drops w v (record v { transit = with_buffer way (Some packet) v.transit }) [] (of_packet v.shape (reach_of w) packet) nothing
-on_drops w v packet way shaped kept fits out empty = record {
+on_drops w v packet way shaped kept fits out empty home at = record {
   weighs = λ f. let b = buffer_more f v.shape (reach_of w) way packet v.transit out empty in omega arith;
   holds = λ j. refl;
   threads = refl;
@@ -105,6 +108,7 @@ on_drops w v packet way shaped kept fits out empty = record {
   shaped = transit_shaped v way (Some packet) fits shaped;
   kept = kept;
   dropped = omega arith;
+  home = home_way (board_of v.tile) v.pending v.transit way (Some packet) at home;
 }
 
 -- ---- a packet whose receivers are here
@@ -120,6 +124,8 @@ pub record Stored (w : WorldView) (set : ℕ) (p : Packet) (v mid : TileView) : 
   pub shaped : WellShaped mid
   pub kept : WellKept mid.pool
   pub dropped : mid.dropped ≡ v.dropped
+  pub pending : mid.pending ≡ v.pending
+  pub transit : mid.transit ≡ v.transit
 
 put_stored : (w : WorldView) (mask : ℕ) (p : Packet) (v : TileView) (s : ℕ) → WellShaped v → WellKept v.pool → mask < 2 ^ length v.pool.queues → length p.bytes ≤ v.pool.slot_bytes → first_free v.pool ≡ Some s →
     Stored w mask p v (record v { pool = put_at s p.bytes mask v.pool; senders = set v.senders s (record { origin = p.origin; number = p.number }) })
@@ -143,6 +149,8 @@ put_stored w mask p v s shaped kept low short e =
       shaped = put_shaped v s mask p.bytes from shaped;
       kept = put_kept v.pool s p.bytes mask free.0 free.1 low short kept;
       dropped = refl;
+      pending = refl;
+      transit = refl;
     }
 
 stored_by : (w : WorldView) (mask : ℕ) (p : Packet) (v mid : TileView) (slot : Option ℕ) → WellShaped v → WellKept v.pool → mask < 2 ^ length v.pool.queues → length p.bytes ≤ v.pool.slot_bytes → first_free v.pool ≡ slot → stored_at slot mask p v ≡ Some mid → Stored w mask p v mid
@@ -165,6 +173,8 @@ nobody_stored w mask p v shaped kept e = record {
   shaped = shaped;
   kept = kept;
   dropped = refl;
+  pending = refl;
+  transit = refl;
 }
 
 stored_is : (w : WorldView) (mask : ℕ) (p : Packet) (v mid : TileView) (b : Bool) → (mask == 0) ≡ b → WellShaped v → WellKept v.pool → mask < 2 ^ length v.pool.queues → length p.bytes ≤ v.pool.slot_bytes → cond b (Some v) (stored_at (first_free v.pool) mask p v) ≡ Some mid → Stored w mask p v mid
@@ -280,9 +290,9 @@ dropped_dead got dropped w there p v packet small t fits here same =
     (found, λ dead. ap (λ (x : Thread). is_dead x.state) is ∙ dead)))
 
 here_drops : (w : WorldView) (v : TileView) (packet : Packet) (mid : TileView) → WithinLimits v.shape → WellShaped v → IsTrue (has_packet v.shape packet) → tile_port v.tile packet.dest ≡ port.Here →
-    Stored w (alive_of v.threads (receivers v.shape packet.dest)) packet v mid →
+    Stored w (alive_of v.threads (receivers v.shape packet.dest)) packet v mid → HomeTile (board_of v.tile) v.pending v.transit →
     Drops w v (record mid { dropped = mid.dropped + count_ones (dead_of v.threads (receivers v.shape packet.dest)) }) (filter (is_for_dead v) (packet_letters v.shape (reach_of w) packet)) (of_packet v.shape (reach_of w) packet) nothing
-here_drops w v packet mid limits shaped fits here m =
+here_drops w v packet mid limits shaped fits here m home =
     let to : ℕ = receivers v.shape packet.dest in
     let l : ℕ → Letter = place_letter v.shape v.tile packet.origin packet.number packet.bytes in
     let dead : ℕ = dead_in v.threads in
@@ -304,6 +314,7 @@ here_drops w v packet mid limits shaped fits here m =
       shaped = notes_shaped mid (mid.dropped + count_ones (dead_of v.threads to)) mid.counter mid.black mid.held mid.ended m.shaped;
       kept = m.kept;
       dropped = let n = dead_count w v packet limits shaped fits here in let d = m.dropped in omega arith;
+      home = home_same v mid m.tile m.pending m.transit home;
     }
 
 -- ---- a packet that comes to a tile
@@ -313,13 +324,13 @@ pub record Passes (w : WorldView) (p : ℕ) (v new : TileView) (packet : Packet)
   pub drops : Drops w v new ls (of_packet v.shape (reach_of w) packet) nothing
   pub dead : (got : ℕ → List Letter) (dropped : List Letter) (there : WorldView) → ShowsThreads w there p v → ForDead w.shape (shown got dropped there) ls
 
-on_passes : (w : WorldView) (p : ℕ) (v new : TileView) (packet : Packet) (way : Port) → GoodTile w.shape p v → IsTrue (has_packet v.shape packet) → IsOut way → sent_on way packet v ≡ Some new → Passes w p v new packet []
-on_passes w p v new packet way t fits out is =
+on_passes : (w : WorldView) (p : ℕ) (v new : TileView) (packet : Packet) (way : Port) → GoodTile w.shape p v → IsTrue (has_packet v.shape packet) → Homed (board_of v.tile) packet → IsOut way → sent_on way packet v ≡ Some new → Passes w p v new packet []
+on_passes w p v new packet way t fits at out is =
     let yes = taken (is_none (buffer_at way v.transit)) (Some (record v { transit = with_buffer way (Some packet) v.transit })) new is in
     let made : TileView = record v { transit = with_buffer way (Some packet) v.transit } in
     let same : made ≡ new = ap (λ (o : Option TileView). unwrap_or o new) yes.1 in
     subst (λ x. Passes w p v x packet []) same (record {
-      drops = on_drops w v packet way t.shaped t.kept fits out (none_from (buffer_at way v.transit) yes.0);
+      drops = on_drops w v packet way t.shaped t.kept fits out (none_from (buffer_at way v.transit) yes.0) t.home at;
       dead = λ got dropped there h. tt;
     })
 
@@ -344,7 +355,7 @@ here_passes w p v new packet small t fits here is =
     let short : length packet.bytes ≤ v.pool.slot_bytes = rw t.shaped.slot_bytes fit in
     let s : Stored w alive packet v m.0 = stored_is w alive packet v m.0 (alive == 0) refl t.shaped t.kept low short m.1 in
     subst (λ x. Passes w p v x packet (filter (is_for_dead v) (packet_letters v.shape (reach_of w) packet))) (sym m.2) (record {
-      drops = here_drops w v packet m.0 limits t.shaped fits here s;
+      drops = here_drops w v packet m.0 limits t.shaped fits here s t.home;
       dead = λ got dropped there h. dropped_dead got dropped w there p v packet small t fits here h;
     })
 
@@ -359,23 +370,23 @@ dropped_on_way port.Up w packet v = []
 dropped_on_way port.Down w packet v = []
 dropped_on_way port.HostPort w packet v = []
 
-way_passes : (w : WorldView) (p : ℕ) (v new : TileView) (packet : Packet) (way : Port) → WithinLimits w.shape → GoodTile w.shape p v → IsTrue (has_packet v.shape packet) → tile_port v.tile packet.dest ≡ way → passed_by way packet v ≡ Some new →
+way_passes : (w : WorldView) (p : ℕ) (v new : TileView) (packet : Packet) (way : Port) → WithinLimits w.shape → GoodTile w.shape p v → IsTrue (has_packet v.shape packet) → Homed (board_of v.tile) packet → tile_port v.tile packet.dest ≡ way → passed_by way packet v ≡ Some new →
     Passes w p v new packet (dropped_on_way way w packet v)
-way_passes w p v new packet port.Here small t fits at is = here_passes w p v new packet small t fits at is
-way_passes w p v new packet port.East small t fits at is = on_passes w p v new packet port.East t fits tt is
-way_passes w p v new packet port.West small t fits at is = on_passes w p v new packet port.West t fits tt is
-way_passes w p v new packet port.South small t fits at is = on_passes w p v new packet port.South t fits tt is
-way_passes w p v new packet port.North small t fits at is = on_passes w p v new packet port.North t fits tt is
-way_passes w p v new packet port.Up small t fits at is = on_passes w p v new packet port.Up t fits tt is
-way_passes w p v new packet port.Down small t fits at is = cc is
-way_passes w p v new packet port.HostPort small t fits at is = cc is
+way_passes w p v new packet port.Here small t fits home at is = here_passes w p v new packet small t fits at is
+way_passes w p v new packet port.East small t fits home at is = on_passes w p v new packet port.East t fits home tt is
+way_passes w p v new packet port.West small t fits home at is = on_passes w p v new packet port.West t fits home tt is
+way_passes w p v new packet port.South small t fits home at is = on_passes w p v new packet port.South t fits home tt is
+way_passes w p v new packet port.North small t fits home at is = on_passes w p v new packet port.North t fits home tt is
+way_passes w p v new packet port.Up small t fits home at is = on_passes w p v new packet port.Up t fits home tt is
+way_passes w p v new packet port.Down small t fits home at is = cc is
+way_passes w p v new packet port.HostPort small t fits home at is = cc is
 
 -- the letters that are dropped where the packet comes to the tile
 abbrev pub dropped_letters : WorldView → Packet → TileView → List Letter
 dropped_letters w packet v = dropped_on_way (tile_port v.tile packet.dest) w packet v
 
-pub packet_passes : (w : WorldView) (p : ℕ) (v new : TileView) (packet : Packet) → WithinLimits w.shape → GoodTile w.shape p v → IsTrue (has_packet v.shape packet) → passed packet v ≡ Some new → Passes w p v new packet (dropped_letters w packet v)
-packet_passes w p v new packet small t fits is = way_passes w p v new packet (tile_port v.tile packet.dest) small t fits refl is
+pub packet_passes : (w : WorldView) (p : ℕ) (v new : TileView) (packet : Packet) → WithinLimits w.shape → GoodTile w.shape p v → IsTrue (has_packet v.shape packet) → Homed (board_of v.tile) packet → passed packet v ≡ Some new → Passes w p v new packet (dropped_letters w packet v)
+packet_passes w p v new packet small t fits home is = way_passes w p v new packet (tile_port v.tile packet.dest) small t fits home refl is
 
 -- as steps of the bag machine
 discards_by : (way : Port) (w : WorldView) (packet : Packet) (v : TileView) → map bag.Discard (dropped_on_way way w packet v) ≡ dropped_at way (reach_of w) packet v
@@ -415,6 +426,7 @@ from_thread w p a k v new packet ls c e d =
       shaped = d.shaped;
       kept = d.kept;
       dropped = d.dropped;
+      home = d.home;
     }
 
 -- what is dropped is the same
@@ -434,8 +446,10 @@ delivery_by got dropped w p a k v new None c e is = cc is
 delivery_by got dropped w p a k v new (Some packet) c e is =
     let t = tile_good w p a k v c in
     let ls : List Letter = dropped_letters w packet (taken_up v k) in
-    let good : GoodTile w.shape p (taken_up v k) = record { shape = t.shape; shaped = pending_shaped v k None tt t.shaped; kept = t.kept; part = t.part } in
-    let d = packet_passes w p (taken_up v k) new packet c.good.limits good (packet_fits v k packet t.shaped e) is in
+    let z = sizes w p a k v c in
+    let good : GoodTile w.shape p (taken_up v k) = record { shape = t.shape; shaped = pending_shaped v k None tt t.shaped; kept = t.kept; part = t.part; home = home_sent (board_of v.tile) v.pending v.transit k None z.pending tt t.home } in
+    let home : Homed (board_of v.tile) packet = subst (AtHome (board_of v.tile)) e (t.home.sent k) in
+    let d = packet_passes w p (taken_up v k) new packet c.good.limits good (packet_fits v k packet t.shaped e) home is in
     let b : Becomes w (with_tile w p new) ls = tile_becomes w p v new ls c.good c.on (from_thread w p a k v new packet ls c e d.drops) in
     subst (λ (steps : List BagStep). Reached got dropped w steps (with_tile w p new)) (discards_are w packet (taken_up v k) ∙ taken_steps (tile_port v.tile packet.dest) w packet v k)
     (becomes_reached got dropped w (with_tile w p new) ls refl b (d.dead got dropped (with_tile w p new) (threads_stay w (with_tile w p new) p v ls c.on b)))

@@ -2,6 +2,7 @@ pub mod Sums
 pub mod Weights
 pub mod Lift
 pub mod Links
+pub mod Homes
 pub mod Slots
 pub mod Holding
 pub mod Fits
@@ -12,6 +13,9 @@ pub mod Receivers
 pub mod Becomes
 pub mod Delivery
 pub mod Crossings
+pub mod Copies
+pub mod Moves
+pub mod Routers
 pub mod PartKinds
 pub mod Walks
 pub mod Starts
@@ -20,3 +24,5 @@ pub mod Spelled
 pub mod Arrivals
 pub mod Made
 pub mod Conserved
+pub mod Copying
+pub mod Waits

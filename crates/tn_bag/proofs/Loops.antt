@@ -3,7 +3,7 @@ use Rattle.std.proofs.Common.{ℕ, ◌≡◌, ◌≤◌, ◌<◌, ◌+◌, ◌-�
 use Rattle.std.specs.List.{flat_map, range_with_len}
 use Rattle.std.proofs.lemmas.Bool.{eq-eqb, ne_eqb}
 use Rattle.std.proofs.lemmas.List.{append-nil}
-use Rattle.tn_bag.specs.Letters.{only_if}
+use Rattle.tn_keys.specs.Copies.{only_if}
 
 -- what the numbers from `i` on give
 abbrev pub from_on : {A : Type 0} → (ℕ → List A) → ℕ → ℕ → List A

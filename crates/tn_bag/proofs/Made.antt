@@ -14,7 +14,9 @@ use Rattle.std.proofs.lemmas.Nat.Bits.{bit_at-zero}
 use Rattle.tn_slots.specs.Pool.{slot_at}
 use Rattle.tn_slots.specs.Slot.{is_free}
 use Rattle.tn_slots.proofs.Kept.{free_masks}
-use Rattle.tn_bag.specs.Letters.{letter, only_if}
+use Rattle.tn_keys.specs.Copies.{only_if}
+use Rattle.tn_keys.specs.Reach.{Reach}
+use Rattle.tn_bag.specs.Letters.{letter}
 use Rattle.tn_tile.specs.Kept.{IsPacket, WellShaped}
 use Rattle.tn_tile.specs.Rows.{is_here, sender_of}
 use Rattle.tn_tile.specs.Step.{pending_at}
@@ -23,7 +25,7 @@ use Rattle.tn_base.specs.declared.message.Letter.{Letter}
 use Rattle.tn_bag.specs.declared.place.Place.{Place}
 use Rattle.tn_bag.specs.declared.place.Place.TheVariants as place
 use Rattle.tn_bag.specs.Standing.{owed_standing, owed_to, pending_of, waiting}
-use Rattle.tn_bag.specs.Tiles.{letter_in, no_reach, sender_at}
+use Rattle.tn_bag.specs.Tiles.{letter_in, sender_at}
 
 -- a thread that is named by its tile and its place is on the tile, at that place
 pub named_here : (v : TileView) (k a : ℕ) → WithinLimits v.shape → WellShaped v → k < tile_threads v.shape → a ≡ in_tile v.shape v.tile k → IsTrue (is_here a v) × (place_in_tile v.shape a ≡ k)
@@ -46,11 +48,11 @@ here_read v n tile k a w same at h e there limits =
     (x.0, x.1, is)
 
 -- the packet of the place, where it was read by the thread's name
-pub pending_read : (v : TileView) (k a : ℕ) (o : Option Packet) → place_in_tile v.shape a ≡ k → a ≡ in_tile v.shape v.tile k → o ≡ pending_at v (place_in_tile v.shape a) →
-    waiting v.shape no_reach (place.Pending (record { 0 = a })) o ≡ pending_of no_reach v k
-pending_read v k a o at named is =
-    ap (λ x. waiting v.shape no_reach (place.Pending (record { 0 = x })) o) named
-    ∙ ap (waiting v.shape no_reach (place.Pending (record { 0 = in_tile v.shape v.tile k }))) (is ∙ ap (pending_at v) at)
+pub pending_read : (v : TileView) (k a : ℕ) (on : Reach) (o : Option Packet) → place_in_tile v.shape a ≡ k → a ≡ in_tile v.shape v.tile k → o ≡ pending_at v (place_in_tile v.shape a) →
+    waiting v.shape on (place.Pending (record { 0 = a })) o ≡ pending_of on v k
+pending_read v k a on o at named is =
+    ap (λ x. waiting v.shape on (place.Pending (record { 0 = x })) o) named
+    ∙ ap (waiting v.shape on (place.Pending (record { 0 = in_tile v.shape v.tile k }))) (is ∙ ap (pending_at v) at)
 
 -- a free slot is owed to nobody
 flat_none : {A : Type 0} (f : ℕ → List A) (i n : ℕ) → ((k : ℕ) → f k ≡ []) → flat_map f (range_with_len i n) ≡ []

@@ -25,7 +25,9 @@ use Rattle.tn_base.proofs.TilePlaces.{place_back, place_below, place_named, plac
 use Rattle.tn_slots.proofs.Lists.{bit_cases}
 use Rattle.tn_tile.specs.Receivers.{packed, receivers}
 use Rattle.tn_tile.proofs.Packed.{receiver_bit}
-use Rattle.tn_bag.specs.Letters.{Reach, letter, letters, only_if}
+use Rattle.tn_keys.specs.Copies.{only_if}
+use Rattle.tn_keys.specs.Reach.{Reach}
+use Rattle.tn_bag.specs.Letters.{letter, letters}
 use Rattle.tn_bag.proofs.Sums.{sum_below, sum_only, sum_same, sum_shift, sum_single}
 
 -- ---- bits

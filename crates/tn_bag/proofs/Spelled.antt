@@ -33,16 +33,17 @@ use Rattle.tn_bag.specs.declared.place.Place.{Place}
 use Rattle.tn_bag.specs.declared.steps.BagStep.{BagStep}
 use Rattle.tn_bag.specs.declared.steps.BagStep.TheVariants as bag
 use Rattle.tn_bag.specs.Letters.{letter}
+use Rattle.tn_keys.specs.Reach.{Reach}
 use Rattle.tn_bag.specs.Standing.{crossing_at}
 use Rattle.tn_bag.specs.Steps.{thread_step, turn_steps}
-use Rattle.tn_bag.specs.Tiles.{letter_in, no_reach, sender_at}
+use Rattle.tn_bag.specs.Tiles.{letter_in, sender_at}
 use Rattle.tn_bag.proofs.Made.{message_some}
 use Rattle.tn_bag.proofs.Walks.{acted_tile}
 use Rattle.tn_bag.proofs.Simulate.{next, op_fits}
 
 -- the letters at each place of a link
-abbrev pub crossings : ShapeNumbers → ℕ → LinkView → ℕ → List (Place × Letter)
-crossings n p v i = crossing_at n no_reach p i (slice_get v.packets i)
+abbrev pub crossings : ShapeNumbers → Reach → ℕ → LinkView → ℕ → List (Place × Letter)
+crossings n on p v i = crossing_at n on p i (slice_get v.packets i)
 
 -- ---- a queue that is taken slot by slot
 

@@ -24,14 +24,15 @@ use Rattle.tn_tile.specs.TileView.{TileView}
 use Rattle.tn_rows.specs.WorldView.{WorldView}
 use Rattle.tn_bag.specs.declared.steps.BagStep.{BagStep}
 use Rattle.tn_bag.specs.declared.steps.BagStep.TheVariants as bag
-use Rattle.tn_bag.specs.Letters.{letters, packet_letters}
+use Rattle.tn_bag.specs.Letters.{board_of, letters, packet_letters}
 use Rattle.tn_bag.specs.Machine.{IsPrivate, ended_by, freed, handed, own_step, sent_by, with_own_step}
 use Rattle.tn_bag.specs.Standing.{standing_letters}
 use Rattle.tn_bag.specs.State.{BagState, put}
 use Rattle.tn_bag.specs.Steps.{dropped_by, first_letter, queued, seen_at, step_by, thread_step}
 use Rattle.tn_bag.specs.Tiles.{held_in, held_of, letter_in, program_of, reach_of, thread_of}
 use Rattle.tn_bag.proofs.Holding.{freed_here, freed_others, left_here, left_others, taken_here, taken_others}
-use Rattle.tn_bag.proofs.Lift.{good_lift, lift_put, lift_same, program_stays, tile_stands, with_tile}
+use Rattle.tn_bag.proofs.Homes.{home_sent, tile_board}
+use Rattle.tn_bag.proofs.Lift.{Homed, good_lift, lift_put, lift_same, program_stays, tile_stands, with_tile}
 use Rattle.tn_bag.proofs.Runs.{ForDead, discards, run_before, same_refl}
 use Rattle.tn_bag.proofs.Slots.{freed_w, left_w}
 use Rattle.tn_bag.proofs.Sums.{sum_one}
@@ -75,6 +76,8 @@ send_reached got dropped w p a k v to bytes c can e =
     let before : BagState = with_own_step (program_of w) a (seen_at v k) (shown got dropped w) in
     let sent : List Letter = letters w.shape (reach_of w) a (thread_of w a).sends to bytes in
     let after : BagState = record before { flight = sent ++ standing_letters w } in
+    let from : (thread_at v k).id.0 ≡ a = ap (λ (i : ThreadId). i.0) (t.shaped.each k z.below).id ∙ address_is w p a k v c in
+    let home : Homed (board_of v.tile) packet = λ _. ap board_of from ∙ (sym (tile_board a) ∙ ap board_of c.stands.tile) in
     record {
       now = got;
       gone = dropped;
@@ -101,7 +104,7 @@ send_reached got dropped w p a k v to bytes c can e =
           announcements = refl;
         },
       );
-      good = good_lift w p v new c.good c.on (record { shape = t.shape; shaped = shaped_after w p a k v (op.Send to bytes) c can e; kept = t.kept; part = t.part });
+      good = good_lift w p v new c.good c.on (record { shape = t.shape; shaped = shaped_after w p a k v (op.Send to bytes) c can e; kept = t.kept; part = t.part; home = home_sent (board_of v.tile) v.pending v.transit k (Some packet) z.pending home t.home });
       program = program_stays w p v new c.on refl;
       count = let d = dropped_after w p v new c.on in omega arith;
     }
@@ -147,7 +150,7 @@ free_reached got dropped w p a k v s c can e =
           announcements = refl;
         },
       );
-      good = good_lift w p v new c.good c.on (record { shape = t.shape; shaped = shaped_after w p a k v (op.Free s) c can e; kept = freed_kept v.pool k s z.queues holds t.kept; part = t.part });
+      good = good_lift w p v new c.good c.on (record { shape = t.shape; shaped = shaped_after w p a k v (op.Free s) c can e; kept = freed_kept v.pool k s z.queues holds t.kept; part = t.part; home = t.home });
       program = program_stays w p v new c.on refl;
       count = let d = dropped_after w p v new c.on in omega arith;
     }
@@ -203,7 +206,7 @@ hand_by got dropped w p a k v (s ∷ rest) c can e is some shaped =
           announcements = refl;
         },
       );
-      good = good_lift w p v new c.good c.on (record { shape = t.shape; shaped = shaped; kept = taken_kept v.pool k s rest z.queues is t.kept; part = t.part });
+      good = good_lift w p v new c.good c.on (record { shape = t.shape; shaped = shaped; kept = taken_kept v.pool k s rest z.queues is t.kept; part = t.part; home = t.home });
       program = program_stays w p v new c.on refl;
       count = let d = dropped_after w p v new c.on in omega arith;
     }
@@ -266,7 +269,7 @@ kill_reached got dropped w p a k v value c can e =
             (discards (program_of w) (shown got dropped there) (queued v k) (standing_letters there) dropped
             (queue_for_dead w.shape (shown got dropped there) v a k (queue_at v.pool k) (address_is w p a k v c) c.stands.there dead)),
       );
-      good = good_lift w p v new c.good c.on (record { shape = t.shape; shaped = shaped_after w p a k v (op.Kill value) c can e; kept = left_kept v.pool k z.queues t.kept; part = t.part });
+      good = good_lift w p v new c.good c.on (record { shape = t.shape; shaped = shaped_after w p a k v (op.Kill value) c can e; kept = left_kept v.pool k z.queues t.kept; part = t.part; home = t.home });
       program = program_stays w p v new c.on refl;
       count =
           let d = dropped_after w p v new c.on in
@@ -287,17 +290,17 @@ step_reached_by got dropped w p a k v op.None c can e =
     let after : BagState = with_own_step (program_of w) a (seen_at v k) (shown got dropped w) in
     plain got dropped w p a k v (next v k op.None) (bag.Private a (seen_at v k)) c
     (may_step got dropped w p a k v c can, subst IsPrivate (sym own) tt, sym (ap (λ o. ended_by o a after) own))
-    (shaped_after w p a k v op.None c can e) refl refl refl refl refl refl (λ f. refl) (λ j. refl)
+    (shaped_after w p a k v op.None c can e) refl refl refl refl refl refl refl refl (λ f. refl) (λ j. refl)
 step_reached_by got dropped w p a k v (op.Trap why) c can e =
     let own = own_op got dropped w p a k v (op.Trap why) c e in
     let after : BagState = with_own_step (program_of w) a (seen_at v k) (shown got dropped w) in
     plain got dropped w p a k v (next v k (op.Trap why)) (bag.Private a (seen_at v k)) c
     (may_step got dropped w p a k v c can, subst IsPrivate (sym own) tt, sym (ap (λ o. ended_by o a after) own))
-    (shaped_after w p a k v (op.Trap why) c can e) refl refl refl refl refl refl (λ f. refl) (λ j. refl)
+    (shaped_after w p a k v (op.Trap why) c can e) refl refl refl refl refl refl refl refl (λ f. refl) (λ j. refl)
 step_reached_by got dropped w p a k v (op.Idle vote) c can e =
     plain got dropped w p a k v (next v k (op.Idle vote)) (bag.Idle a (seen_at v k) vote) c
     (may_step got dropped w p a k v c can, own_op got dropped w p a k v (op.Idle vote) c e, refl)
-    (shaped_after w p a k v (op.Idle vote) c can e) refl refl refl refl refl refl (λ f. refl) (λ j. refl)
+    (shaped_after w p a k v (op.Idle vote) c can e) refl refl refl refl refl refl refl refl (λ f. refl) (λ j. refl)
 step_reached_by got dropped w p a k v (op.Send to bytes) c can e = send_reached got dropped w p a k v to bytes c can e
 step_reached_by got dropped w p a k v (op.Free s) c can e = free_reached got dropped w p a k v s c can e
 step_reached_by got dropped w p a k v op.Hand c can e =

@@ -9,21 +9,29 @@ use Rattle.tn_tile.specs.Step.{acted, can_step, pending_at, step_at_place, stepp
 use Rattle.tn_tile.specs.TileView.{TileView}
 use Rattle.tn_link.specs.LinkRows.{front_of}
 use Rattle.tn_link.specs.LinkView.{LinkView}
-use Rattle.tn_rows.specs.PartView.{PartView, TileV, LinkV, AbsentV}
+use Rattle.tn_rows.specs.PartView.{PartView, TileV, RouterV, LinkV, AbsentV}
 use Rattle.tn_rows.specs.WorldView.{WorldView}
 use Rattle.tn_bag.specs.declared.steps.BagStep.{BagStep}
 use Rattle.tn_bag.specs.Machine.{BagRun}
 use Rattle.tn_bag.specs.Steps.{thread_step}
 use Rattle.tn_bag.specs.Tiles.{program_of, reach_of}
 use Rattle.tn_bag.proofs.Crossings.{arrival_reached, departure_reached}
-use Rattle.tn_bag.proofs.Lift.{Good, IsLink, LeadsOn, LinkAt, NoLink, On, OnLink, on_new, twice, with_tile}
+use Rattle.tn_bag.proofs.Routers.{LeadsTo, arrival_reached as router_arrival, departure_reached as router_departure, route_reached}
+use Rattle.tn_rows.proofs.Neighbours.{Near, links_near}
+use Rattle.tn_router.specs.Kept.{leads_on}
+use Rattle.tn_router.specs.Left.{board_on}
+use Rattle.tn_router.specs.RouterView.{RouterView}
+use Rattle.tn_base.specs.declared.ids.Board.{Board}
+use Rattle.tn_base.specs.declared.ids.TileId.{TileId}
+use Rattle.tn_bag.specs.Letters.{board_ahead, board_of, kind_board, link_board}
+use Rattle.tn_bag.proofs.Lift.{Good, LeadsOn, On, OnPart, StandsAt, is_tile, leads_to_tile, on_new, part_on, stands_on, tile_on, twice, with_tile}
 use Rattle.tn_bag.proofs.Runs.{run_join, same_refl}
 use Rattle.tn_base.specs.declared.ids.PartId.{PartId}
 use Rattle.tn_base.specs.declared.part.Kind.{Kind}
 use Rattle.tn_base.specs.declared.part.Kind.TheVariants as kind
 use Rattle.tn_base.specs.declared.shape.ShapeNumbers.{ShapeNumbers}
 use Rattle.tn_base.specs.Parts.{kind_of, visited}
-use Rattle.std.proofs.Common.{ℕ, ◌≡◌, ◌≤◌, ◌<◌, length, get_or, ◌&&◌, Bool, true, false, List, [], ◌∷◌, ◌++◌, set, zero, suc, refl, sym, ◌∙◌, ap, subst, arith, Option, Some, None, option_map, unwrap_or, IsTrue}
+use Rattle.std.proofs.Common.{ℕ, ◌≡◌, ◌<◌, ◌&&◌, Bool, true, false, List, [], ◌∷◌, ◌++◌, set, zero, suc, refl, sym, ◌∙◌, ap, subst, arith, Option, Some, None, option_map, unwrap_or, IsTrue}
 use Rattle.std.specs.List.{slice_get}
 use Rattle.std.specs.Prelude.{option_and_then}
 use Rattle.std.proofs.lemmas.List.{set-get_or}
@@ -33,8 +41,8 @@ use Rattle.tn_base.specs.declared.event.Event.TheVariants as event
 use Rattle.tn_tile.specs.Rows.{delivered_from, is_here}
 use Rattle.tn_tile.specs.Step.{steps_of}
 use Rattle.tn_tile.proofs.Steps.{taken}
-use Rattle.tn_rows.specs.Events.{Met, after, carried, crossing_of, happened, happened_at, link_row, meets, meets_at, met_with, tile_row, with_both, with_part}
-use Rattle.tn_rows.specs.Places.{Places, Nowhere, One, Two, leads_from, leads_to, places, two_if}
+use Rattle.tn_rows.specs.Events.{Met, after, carried, crossing_of, happened, happened_at, link_row, meets, meets_at, met_with, router_row, tile_row, with_both, with_part}
+use Rattle.tn_rows.specs.Places.{Places, Nowhere, One, Two, leads_from, leads_to, link_way, places, two_if, way_between, way_of_kind}
 use Rattle.tn_stamp.specs.declared.entry.Crossing.{Crossing}
 use Rattle.tn_stamp.specs.declared.entry.Crossing.TheVariants as crossing
 use Rattle.tn_rows.specs.Runs.{Run}
@@ -104,7 +112,7 @@ first_of_four false b c d e = cc e
 -- the thread of an event on the tile of a part is at its place there
 here_is : (w : WorldView) (p a : ℕ) (v : TileView) → Good w → On w p v → is_here a v ≡ true → Place w p v a (place_in_tile v.shape a)
 here_is w p a v good on here =
-    let t = good.each p v on in
+    let t = tile_on w p v good on in
     let parts = and_parts _ _ here in
     record {
       good = good;
@@ -158,70 +166,224 @@ not_some : (w new : WorldView) (p : ℕ) (r : Option LinkView) → r ≡ None �
 not_some w new p None e is = cc is
 not_some w new p (Some x) e is = cc e
 
--- part p of the machine is what is read there
-on_read : (w : WorldView) (p : ℕ) (v : TileView) → Good w → slice_get w.parts p ≡ Some (TileV v) → On w p v
-on_read w p v good here =
-    let h = slice_get_within w.parts p (TileV v) here in
-    let n = good.count in
-    record { within = h; below = omega arith; is = get_or_from_slice_get w.parts p (TileV v) AbsentV here }
+-- a router by itself only routes
+route_only : (got : ℕ → List Letter) (dropped : List Letter) (e : Event) (w : WorldView) (p : ℕ) (v new : RouterView) → Good w → OnPart w p (RouterV v) → router_row e crossing.None v ≡ Some new → Reached got dropped w [] (with_part w p (RouterV new))
+route_only got dropped (event.Route x) w p v new good on row = route_reached got dropped w p v new good on row
+route_only got dropped (event.Turn t n) w p v new good on row = cc row
+route_only got dropped (event.Deliver t) w p v new good on row = cc row
+route_only got dropped (event.Depart x y) w p v new good on row = cc row
+route_only got dropped (event.Arrive x y) w p v new good on row = cc row
+route_only got dropped event.HostPut w p v new good on row = cc row
+route_only got dropped event.HostTake w p v new good on row = cc row
+route_only got dropped (event.Report x) w p v new good on row = cc row
+route_only got dropped event.Begin w p v new good on row = cc row
+route_only got dropped (event.Confirm x) w p v new good on row = cc row
+route_only got dropped event.Announce w p v new good on row = cc row
+route_only got dropped (event.Release x) w p v new good on row = cc row
+route_only got dropped (event.Go x) w p v new good on row = cc row
 
-on_link_read : (w : WorldView) (q : ℕ) (x : LinkView) → Good w → slice_get w.parts q ≡ Some (LinkV x) → OnLink w q x
-on_link_read w q x good here =
-    let h = slice_get_within w.parts q (LinkV x) here in
+by_route : (got : ℕ → List Letter) (dropped : List Letter) (e : Event) (w new : WorldView) (p : ℕ) (v : RouterView) (r : Option RouterView) → Good w → OnPart w p (RouterV v) → router_row e crossing.None v ≡ r → option_map (with_part w p) (option_map RouterV r) ≡ Some new → Reached got dropped w [] new
+by_route got dropped e w new p v None good on row is = cc is
+by_route got dropped e w new p v (Some x) good on row is =
+    subst (λ (y : WorldView). Reached got dropped w [] y) (ap (λ (o : Option WorldView). unwrap_or o new) is) (route_only got dropped e w p v x good on row)
+
+-- part p of the machine is what is read there
+on_read : (w : WorldView) (p : ℕ) (part : PartView) → Good w → slice_get w.parts p ≡ Some part → OnPart w p part
+on_read w p part good here =
+    let h = slice_get_within w.parts p part here in
     let n = good.count in
-    record { within = h; below = omega arith; is = get_or_from_slice_get w.parts q (LinkV x) AbsentV here }
+    record { within = h; below = omega arith; is = get_or_from_slice_get w.parts p part AbsentV here }
 
 by_part : (got : ℕ → List Letter) (dropped : List Letter) (e : Event) (w new : WorldView) (p : ℕ) (q : Option PartView) → Good w → slice_get w.parts p ≡ q → option_map (with_part w p) (option_and_then (after e crossing.None) q) ≡ Some new → Reached got dropped w (part_steps (reach_of w) e q) new
 by_part got dropped e w new p None good here is = cc is
 by_part got dropped e w new p (Some AbsentV) good here is = cc is
 by_part got dropped e w new p (Some (LinkV x)) good here is = absurd (not_some w new p (link_row e crossing.None x) (no_row e x) is)
-by_part got dropped e w new p (Some (TileV v)) good here is = by_row got dropped e w new p v (tile_row e crossing.None v) good (on_read w p v good here) refl is
+by_part got dropped e w new p (Some (RouterV v)) good here is = by_route got dropped e w new p v (router_row e crossing.None v) good (on_read w p (RouterV v) good here) refl is
+by_part got dropped e w new p (Some (TileV v)) good here is = by_row got dropped e w new p v (tile_row e crossing.None v) good (on_read w p (TileV v) good here) refl is
 
 -- ---- an event on two parts
 
--- where a packet passes, the first part is no link, and the second is one
+-- link q leads away from part p
+pub record DepartsBy (n : ShapeNumbers) (p q : ℕ) : Type 0 where
+  pub from : PartId
+  pub onto : PartId
+  pub is : kind_of n q ≡ kind.Link from onto
+  pub at : from.0 ≡ p
+
+-- link q leads to part p
+pub record ArrivesBy (n : ShapeNumbers) (p q : ℕ) : Type 0 where
+  pub from : PartId
+  pub onto : PartId
+  pub is : kind_of n q ≡ kind.Link from onto
+  pub at : onto.0 ≡ p
+
+-- where a packet passes, a link leads so
 abbrev pub Joined : WorldView → Event → ℕ → ℕ → Type 0
-Joined w (event.Depart here there) p q = NoLink (get_or w.parts p AbsentV) × IsLink (get_or w.parts q AbsentV)
-Joined w (event.Arrive there here) p q = NoLink (get_or w.parts p AbsentV) × IsLink (get_or w.parts q AbsentV)
+Joined w (event.Depart here there) p q = (there.0 ≡ q) × DepartsBy w.shape p q
+Joined w (event.Arrive there here) p q = ArrivesBy w.shape p q
 Joined w _ p q = Unit {0}
+
+-- at a link's place stands a link, and at a visited part's none
+only_link : (n : ShapeNumbers) (p q : ℕ) (k : Kind) (part : PartView) → LeadsOn n → kind_of n p ≡ k → p < visited n → StandsAt k part → (x : LinkView) → part ≡ LinkV x → ⊥
+only_link n p q (kind.Link from onto) part leads e low stands x is = let behind = (leads p from onto e).behind in absurd (omega arith)
+only_link n p q kind.Host part leads e low stands x is = subst (StandsAt kind.Host) is stands
+only_link n p q (kind.Tile tile) part leads e low stands x is = subst (StandsAt (kind.Tile tile)) is stands
+only_link n p q (kind.Router board) part leads e low stands x is = subst (StandsAt (kind.Router board)) is stands
+only_link n p q kind.Detector part leads e low stands x is = subst (StandsAt kind.Detector) is stands
+
+-- the parts at the ends of a link
+tile_at : (k : Kind) (v : TileView) → StandsAt k (TileV v) → (tile : TileId) × (k ≡ kind.Tile tile) × (v.tile ≡ tile.0)
+tile_at (kind.Tile tile) v stands = (tile, refl, stands)
+tile_at kind.Host v stands = absurd stands
+tile_at (kind.Router board) v stands = absurd stands
+tile_at (kind.Link from onto) v stands = absurd stands
+tile_at kind.Detector v stands = absurd stands
+
+router_at : (k : Kind) (v : RouterView) → StandsAt k (RouterV v) → k ≡ kind.Router v.board
+router_at (kind.Router board) v stands = ap kind.Router (sym stands)
+router_at kind.Host v stands = absurd stands
+router_at (kind.Tile tile) v stands = absurd stands
+router_at (kind.Link from onto) v stands = absurd stands
+router_at kind.Detector v stands = absurd stands
+
+-- ---- the boards to which links lead
+
+ahead : (n : ShapeNumbers) (q : ℕ) (from onto : PartId) → kind_of n q ≡ kind.Link from onto → link_board n q ≡ kind_board (kind_of n onto.0)
+ahead n q from onto is = ap (board_ahead n) is
+
+from_tile : (n : ShapeNumbers) (tile : TileId) (k : Kind) → Near n (kind.Tile tile) k → kind_board k ≡ board_of tile.0
+from_tile n tile (kind.Tile other) near = near
+from_tile n tile (kind.Router board) near = near
+from_tile n tile kind.Host near = absurd near
+from_tile n tile (kind.Link from onto) near = absurd near
+from_tile n tile kind.Detector near = absurd near
+
+from_router : (n : ShapeNumbers) (b : Board) (k : Kind) → Near n (kind.Router b) k → leads_on (way_between (kind.Router b) k) ≡ true → board_on n b (way_between (kind.Router b) k) ≡ Some (kind_board k)
+from_router n b (kind.Router board) near on = near
+from_router n b (kind.Tile tile) near on = cc on
+from_router n b kind.Host near on = cc on
+from_router n b (kind.Link from onto) near on = cc on
+from_router n b kind.Detector near on = cc on
+
+down_only : (b : Board) (k : Kind) → is_tile k ≡ true → leads_on (way_between (kind.Router b) k) ≡ false
+down_only b (kind.Tile tile) is = refl
+down_only b (kind.Router board) is = cc is
+down_only b kind.Host is = cc is
+down_only b (kind.Link from onto) is = cc is
+down_only b kind.Detector is = cc is
+
+-- the link from a tile leads to its board
+tile_departs : (w : WorldView) (p q : ℕ) (v : TileView) → Good w → On w p v → DepartsBy w.shape p q → link_board w.shape q ≡ board_of v.tile
+tile_departs w p q v good on d =
+    let n : ShapeNumbers = w.shape in
+    let t = tile_at (kind_of n p) v (stands_on w p (TileV v) good on) in
+    let near : Near n (kind.Tile t.0) (kind_of n d.onto.0) = subst (λ k. Near n k (kind_of n d.onto.0)) (ap (kind_of n) d.at ∙ t.1) (links_near n q d.from d.onto good.limits d.is) in
+    ahead n q d.from d.onto d.is ∙ (from_tile n t.0 (kind_of n d.onto.0) near ∙ ap board_of (sym t.2))
+
+way_is : (w : WorldView) (p q : ℕ) (v : RouterView) → Good w → OnPart w p (RouterV v) → (d : DepartsBy w.shape p q) → link_way w.shape q ≡ way_between (kind.Router v.board) (kind_of w.shape d.onto.0)
+way_is w p q v good on d =
+    let n : ShapeNumbers = w.shape in
+    ap (way_of_kind n) d.is ∙ ap (λ k. way_between k (kind_of n d.onto.0)) (ap (kind_of n) d.at ∙ router_at (kind_of n p) v (stands_on w p (RouterV v) good on))
+
+-- the link from a router leads where its way does
+router_departs : (w : WorldView) (p q : ℕ) (v : RouterView) → Good w → OnPart w p (RouterV v) → DepartsBy w.shape p q → leads_on (link_way w.shape q) ≡ true → board_on w.shape v.board (link_way w.shape q) ≡ Some (link_board w.shape q)
+router_departs w p q v good on d leads =
+    let n : ShapeNumbers = w.shape in
+    let way = way_is w p q v good on d in
+    let near : Near n (kind.Router v.board) (kind_of n d.onto.0) = subst (λ k. Near n k (kind_of n d.onto.0)) (ap (kind_of n) d.at ∙ router_at (kind_of n p) v (stands_on w p (RouterV v) good on)) (links_near n q d.from d.onto good.limits d.is) in
+    ap (board_on n v.board) way ∙ (from_router n v.board (kind_of n d.onto.0) near (sym (ap leads_on way) ∙ leads) ∙ ap (λ b. Some b) (sym (ahead n q d.from d.onto d.is)))
+
+router_down : (w : WorldView) (p q : ℕ) (v : RouterView) → Good w → OnPart w p (RouterV v) → DepartsBy w.shape p q → leads_to_tile w.shape (kind_of w.shape q) ≡ true → leads_on (link_way w.shape q) ≡ false
+router_down w p q v good on d tile =
+    ap leads_on (way_is w p q v good on d) ∙ down_only v.board (kind_of w.shape d.onto.0) (sym (ap (leads_to_tile w.shape) d.is) ∙ tile)
+
+tile_arrives : (w : WorldView) (p q : ℕ) (v : TileView) → Good w → On w p v → ArrivesBy w.shape p q → (link_board w.shape q ≡ board_of v.tile) × (leads_to_tile w.shape (kind_of w.shape q) ≡ true)
+tile_arrives w p q v good on d =
+    let n : ShapeNumbers = w.shape in
+    let t = tile_at (kind_of n p) v (stands_on w p (TileV v) good on) in
+    let here : kind_of n d.onto.0 ≡ kind.Tile t.0 = ap (kind_of n) d.at ∙ t.1 in
+    (ahead n q d.from d.onto d.is ∙ (ap kind_board here ∙ ap board_of (sym t.2)), ap (leads_to_tile n) d.is ∙ ap is_tile here)
+
+router_arrives : (w : WorldView) (p q : ℕ) (v : RouterView) → Good w → OnPart w p (RouterV v) → ArrivesBy w.shape p q → link_board w.shape q ≡ v.board
+router_arrives w p q v good on d =
+    let n : ShapeNumbers = w.shape in
+    ahead n q d.from d.onto d.is ∙ ap kind_board (ap (kind_of n) d.at ∙ router_at (kind_of n p) v (stands_on w p (RouterV v) good on))
+
+-- ---- an event on a part and a link
 
 did_meet : (w new : WorldView) (p q : ℕ) (r : Option Met) → option_map (with_both w p q) r ≡ Some new → (m : Met) × (r ≡ Some m) × (with_both w p q m ≡ new)
 did_meet w new p q None is = cc is
 did_meet w new p q (Some m) is = (m, refl, ap (λ (o : Option WorldView). unwrap_or o new) is)
 
-depart_pair : (got : ℕ → List Letter) (dropped : List Letter) (w new : WorldView) (here there : PartId) (p q : ℕ) (low high : PartView) → Good w → slice_get w.parts p ≡ Some low → slice_get w.parts q ≡ Some high → NoLink low → IsLink high →
-    option_map (with_both w p q) (meets (event.Depart here there) low high) ≡ Some new → Reached got dropped w [] new
-depart_pair got dropped w new here there p q (TileV v) (LinkV x) good a b apart link is =
-    let m = did_meet w new p q (meets (event.Depart here there) (TileV v) (LinkV x)) is in
-    subst (λ (z : WorldView). Reached got dropped w [] z) m.2
-    (departure_reached got dropped w p q v x m.0 here there good (on_read w p v good a) (on_link_read w q x good b) m.1)
-depart_pair got dropped w new here there p q (TileV v) (TileV u) good a b apart link is = absurd link
-depart_pair got dropped w new here there p q (TileV v) AbsentV good a b apart link is = absurd link
-depart_pair got dropped w new here there p q (LinkV y) high good a b apart link is = absurd apart
-depart_pair got dropped w new here there p q AbsentV high good a b apart link is = cc is
+-- the second part is a link
+abbrev IsLink : PartView → Type 0
+IsLink (TileV v) = ⊥
+IsLink (RouterV v) = ⊥
+IsLink (LinkV x) = Unit {0}
+IsLink AbsentV = ⊥
 
-arrive_pair : (got : ℕ → List Letter) (dropped : List Letter) (w new : WorldView) (there here : PartId) (p q : ℕ) (low high : PartView) → Good w → slice_get w.parts p ≡ Some low → slice_get w.parts q ≡ Some high → NoLink low → IsLink high →
+link_there : (w : WorldView) (q : ℕ) (from onto : PartId) (part : PartView) → Good w → OnPart w q part → kind_of w.shape q ≡ kind.Link from onto → IsLink part
+link_there w q from onto (LinkV x) good on is = tt
+link_there w q from onto (TileV v) good on is = subst (λ k. StandsAt k (TileV v)) is (stands_on w q (TileV v) good on)
+link_there w q from onto (RouterV v) good on is = subst (λ k. StandsAt k (RouterV v)) is (stands_on w q (RouterV v) good on)
+link_there w q from onto AbsentV good on is = subst (λ k. StandsAt k AbsentV) is (stands_on w q AbsentV good on)
+
+-- the first one is none
+no_link : (w : WorldView) (p : ℕ) (x : LinkView) → Good w → OnPart w p (LinkV x) → p < visited w.shape → ⊥
+no_link w p x good on low = only_link w.shape p p (kind_of w.shape p) (LinkV x) good.leads refl low (stands_on w p (LinkV x) good on) x refl
+
+depart_pair : (got : ℕ → List Letter) (dropped : List Letter) (w new : WorldView) (here there : PartId) (p q : ℕ) (low high : PartView) → Good w → OnPart w p low → OnPart w q high → there.0 ≡ q → DepartsBy w.shape p q → IsLink high →
+    option_map (with_both w p q) (meets (event.Depart here there) low high) ≡ Some new → Reached got dropped w [] new
+depart_pair got dropped w new here there p q (TileV v) (LinkV x) good on off at d link is =
+    let m = did_meet w new p q (meets (event.Depart here there) (TileV v) (LinkV x)) is in
+    subst (λ (z : WorldView). Reached got dropped w [] z) m.2 (departure_reached got dropped w p q v x m.0 here there good on off (tile_departs w p q v good on d) m.1)
+depart_pair got dropped w new here there p q (RouterV v) (LinkV x) good on off at d link is =
+    let m = did_meet w new p q (meets (event.Depart here there) (RouterV v) (LinkV x)) is in
+    let way : link_way v.shape there.0 ≡ link_way w.shape q = ap (λ n. link_way n there.0) (part_on w p (RouterV v) good on).shape ∙ ap (link_way w.shape) at in
+    let leads : LeadsTo v (link_way v.shape there.0) (link_board w.shape q) = λ on_way.
+    ap (λ n. board_on n v.board (link_way v.shape there.0)) (part_on w p (RouterV v) good on).shape ∙ (ap (board_on w.shape v.board) way ∙ router_departs w p q v good on d (sym (ap leads_on way) ∙ on_way)) in
+    subst (λ (z : WorldView). Reached got dropped w [] z) m.2
+    (router_departure got dropped w p q v x m.0 here there good on off leads (λ tile. ap leads_on way ∙ router_down w p q v good on d tile) m.1)
+depart_pair got dropped w new here there p q (LinkV y) (LinkV x) good on off at d link is =
+    let low = (good.leads q d.from d.onto d.is).from_visited in
+    let from = d.at in
+    absurd (no_link w p y good on (omega arith))
+depart_pair got dropped w new here there p q AbsentV (LinkV x) good on off at d link is = cc is
+depart_pair got dropped w new here there p q low (TileV u) good on off at d link is = absurd link
+depart_pair got dropped w new here there p q low (RouterV u) good on off at d link is = absurd link
+depart_pair got dropped w new here there p q low AbsentV good on off at d link is = absurd link
+
+arrive_pair : (got : ℕ → List Letter) (dropped : List Letter) (w new : WorldView) (there here : PartId) (p q : ℕ) (low high : PartView) → Good w → OnPart w p low → OnPart w q high → ArrivesBy w.shape p q → IsLink high →
     option_map (with_both w p q) (meets (event.Arrive there here) low high) ≡ Some new → Reached got dropped w (taking_steps (reach_of w) (carried high) low) new
-arrive_pair got dropped w new there here p q (TileV v) (LinkV x) good a b apart link is =
+arrive_pair got dropped w new there here p q (TileV v) (LinkV x) good on off d link is =
     let m = did_meet w new p q (meets (event.Arrive there here) (TileV v) (LinkV x)) is in
+    let leads = tile_arrives w p q v good on d in
     subst (λ (z : WorldView). Reached got dropped w (delivery_steps (reach_of w) (front_of x) v) z) m.2
-    (arrival_reached got dropped w p q v x m.0 there here good (on_read w p v good a) (on_link_read w q x good b) m.1)
-arrive_pair got dropped w new there here p q (TileV v) (TileV u) good a b apart link is = absurd link
-arrive_pair got dropped w new there here p q (TileV v) AbsentV good a b apart link is = absurd link
-arrive_pair got dropped w new there here p q (LinkV y) high good a b apart link is = absurd apart
-arrive_pair got dropped w new there here p q AbsentV high good a b apart link is = absurd (none_meets w new p q (event.Arrive there here) high (crossing_of (event.Arrive there here) AbsentV high) is)
+    (arrival_reached got dropped w p q v x m.0 there here good on off leads.0 leads.1 m.1)
+arrive_pair got dropped w new there here p q (RouterV v) (LinkV x) good on off d link is =
+    let m = did_meet w new p q (meets (event.Arrive there here) (RouterV v) (LinkV x)) is in
+    subst (λ (z : WorldView). Reached got dropped w [] z) m.2
+    (router_arrival got dropped w p q v x m.0 there here good on off (router_arrives w p q v good on d) m.1)
+arrive_pair got dropped w new there here p q (LinkV y) (LinkV x) good on off d link is =
+    let low = (good.leads q d.from d.onto d.is).onto_visited in
+    let onto = d.at in
+    absurd (no_link w p y good on (omega arith))
+arrive_pair got dropped w new there here p q AbsentV (LinkV x) good on off d link is = absurd (none_meets w new p q (event.Arrive there here) (LinkV x) (crossing_of (event.Arrive there here) AbsentV (LinkV x)) is)
   where
     none_meets : (w new : WorldView) (p q : ℕ) (e : Event) (high : PartView) (c : Option Crossing) → option_map (with_both w p q) (met_with e AbsentV high c) ≡ Some new → ⊥
     none_meets w new p q e high None is = cc is
     none_meets w new p q e high (Some c) is = cc is
+arrive_pair got dropped w new there here p q low (TileV u) good on off d link is = absurd link
+arrive_pair got dropped w new there here p q low (RouterV u) good on off d link is = absurd link
+arrive_pair got dropped w new there here p q low AbsentV good on off d link is = absurd link
 
 -- the parts are there
-pair_at : (got : ℕ → List Letter) (dropped : List Letter) (e : Event) (w new : WorldView) (p q : ℕ) (low high : PartView) → Good w → Joined w e p q → slice_get w.parts p ≡ Some low → slice_get w.parts q ≡ Some high →
+pair_at : (got : ℕ → List Letter) (dropped : List Letter) (e : Event) (w new : WorldView) (p q : ℕ) (low high : PartView) → Good w → Joined w e p q → OnPart w p low → OnPart w q high →
     option_map (with_both w p q) (meets e low high) ≡ Some new → Reached got dropped w (meeting_steps (reach_of w) e (Some low) (Some high)) new
 pair_at got dropped (event.Depart here there) w new p q low high good joined a b is =
-    depart_pair got dropped w new here there p q low high good a b (subst NoLink (get_or_from_slice_get w.parts p low AbsentV a) joined.0) (subst IsLink (get_or_from_slice_get w.parts q high AbsentV b) joined.1) is
+    depart_pair got dropped w new here there p q low high good a b joined.0 joined.1 (link_there w q joined.1.from joined.1.onto high good b joined.1.is) is
 pair_at got dropped (event.Arrive there here) w new p q low high good joined a b is =
-    arrive_pair got dropped w new there here p q low high good a b (subst NoLink (get_or_from_slice_get w.parts p low AbsentV a) joined.0) (subst IsLink (get_or_from_slice_get w.parts q high AbsentV b) joined.1) is
+    arrive_pair got dropped w new there here p q low high good a b joined (link_there w q joined.from joined.onto high good b joined.is) is
 pair_at got dropped (event.Turn t n) w new p q low high good joined a b is = cc is
 pair_at got dropped (event.Deliver t) w new p q low high good joined a b is = cc is
 pair_at got dropped (event.Route x) w new p q low high good joined a b is = cc is
@@ -236,7 +398,7 @@ pair_at got dropped (event.Go x) w new p q low high good joined a b is = cc is
 
 by_pair : (got : ℕ → List Letter) (dropped : List Letter) (e : Event) (w new : WorldView) (p q : ℕ) (low high : Option PartView) → Good w → Joined w e p q → slice_get w.parts p ≡ low → slice_get w.parts q ≡ high →
     option_map (with_both w p q) (meets_at e low high) ≡ Some new → Reached got dropped w (meeting_steps (reach_of w) e low high) new
-by_pair got dropped e w new p q (Some low) (Some high) good joined a b is = pair_at got dropped e w new p q low high good joined a b is
+by_pair got dropped e w new p q (Some low) (Some high) good joined a b is = pair_at got dropped e w new p q low high good joined (on_read w p low good a) (on_read w q high good b) is
 by_pair got dropped e w new p q (Some low) None good joined a b is = cc is
 by_pair got dropped e w new p q None high good joined a b is = cc is
 
@@ -256,61 +418,25 @@ joined_if : (w : WorldView) (e : Event) (p q : ℕ) (there : Bool) → (there �
 joined_if w e p q true h = h refl
 joined_if w e p q false h = tt
 
--- links lead from and to parts that are none
-pub record Leads (n : ShapeNumbers) (p q : ℕ) : Type 0 where
-  pub from : PartId
-  pub onto : PartId
-  pub is : kind_of n q ≡ kind.Link from onto
-  pub below : p < visited n
+departs_so : (n : ShapeNumbers) (p q : ℕ) (k : Kind) → kind_of n q ≡ k → leads_from p k ≡ true → DepartsBy n p q
+departs_so n p q (kind.Link from onto) e is = record { from = from; onto = onto; is = e; at = eqb-true _ _ is }
+departs_so n p q kind.Host e is = cc is
+departs_so n p q (kind.Tile tile) e is = cc is
+departs_so n p q (kind.Router board) e is = cc is
+departs_so n p q kind.Detector e is = cc is
 
-departs_so : (n : ShapeNumbers) (p q : ℕ) (k : Kind) → LeadsOn n → kind_of n q ≡ k → leads_from p k ≡ true → Leads n p q
-departs_so n p q (kind.Link from onto) leads e is =
-    let at : from.0 ≡ p = eqb-true _ _ is in
-    let ends = leads q from onto e in
-    let low = ends.from_visited in
-    record { from = from; onto = onto; is = e; below = omega arith }
-departs_so n p q kind.Host leads e is = cc is
-departs_so n p q (kind.Tile tile) leads e is = cc is
-departs_so n p q (kind.Router board) leads e is = cc is
-departs_so n p q kind.Detector leads e is = cc is
-
-arrives_so : (n : ShapeNumbers) (p q : ℕ) (k : Kind) → LeadsOn n → kind_of n q ≡ k → leads_to p k ≡ true → Leads n p q
-arrives_so n p q (kind.Link from onto) leads e is =
-    let at : onto.0 ≡ p = eqb-true _ _ is in
-    let ends = leads q from onto e in
-    let low = ends.onto_visited in
-    record { from = from; onto = onto; is = e; below = omega arith }
-arrives_so n p q kind.Host leads e is = cc is
-arrives_so n p q (kind.Tile tile) leads e is = cc is
-arrives_so n p q (kind.Router board) leads e is = cc is
-arrives_so n p q kind.Detector leads e is = cc is
-
--- a visited part is no link
-no_link_by : (n : ShapeNumbers) (p : ℕ) (k : Kind) (part : PartView) → LeadsOn n → kind_of n p ≡ k → p < visited n → LinkAt k part → NoLink part
-no_link_by n p (kind.Link from onto) part leads e h at = let behind = (leads p from onto e).behind in absurd (omega arith)
-no_link_by n p kind.Host part leads e h at = at
-no_link_by n p (kind.Tile tile) part leads e h at = at
-no_link_by n p (kind.Router board) part leads e h at = at
-no_link_by n p kind.Detector part leads e h at = at
-
-beyond : (parts : List PartView) (q : ℕ) → length parts ≤ q → NoLink (get_or parts q AbsentV)
-beyond [] q h = tt
-beyond (x ∷ xs) zero h = absurd (omega arith)
-beyond (x ∷ xs) (suc q) h = beyond xs q (omega arith)
-
-leads_joined : (w : WorldView) (p q : ℕ) → Good w → Leads w.shape p q → NoLink (get_or w.parts p AbsentV) × IsLink (get_or w.parts q AbsentV)
-leads_joined w p q good l =
-    let ends = good.leads q l.from l.onto l.is in
-    let within = ends.there in
-    let behind = ends.behind in
-    let low = l.below in (
-      no_link_by w.shape p (kind_of w.shape p) (get_or w.parts p AbsentV) good.leads refl low (good.links p (omega arith)),
-      subst (λ k. LinkAt k (get_or w.parts q AbsentV)) l.is (good.links q within),
-    )
+arrives_so : (n : ShapeNumbers) (p q : ℕ) (k : Kind) → kind_of n q ≡ k → leads_to p k ≡ true → ArrivesBy n p q
+arrives_so n p q (kind.Link from onto) e is = record { from = from; onto = onto; is = e; at = eqb-true _ _ is }
+arrives_so n p q kind.Host e is = cc is
+arrives_so n p q (kind.Tile tile) e is = cc is
+arrives_so n p q (kind.Router board) e is = cc is
+arrives_so n p q kind.Detector e is = cc is
 
 joined_at : (w : WorldView) (e : Event) → Good w → JoinedAt w e (places w.shape e)
-joined_at w (event.Depart here there) good = joined_if w (event.Depart here there) here.0 there.0 (leads_from here.0 (kind_of w.shape there.0)) (λ is. leads_joined w here.0 there.0 good (departs_so w.shape here.0 there.0 (kind_of w.shape there.0) good.leads refl is))
-joined_at w (event.Arrive there here) good = joined_if w (event.Arrive there here) here.0 there.0 (leads_to here.0 (kind_of w.shape there.0)) (λ is. leads_joined w here.0 there.0 good (arrives_so w.shape here.0 there.0 (kind_of w.shape there.0) good.leads refl is))
+joined_at w (event.Depart here there) good =
+    joined_if w (event.Depart here there) here.0 there.0 (leads_from here.0 (kind_of w.shape there.0)) (λ is. (refl, departs_so w.shape here.0 there.0 (kind_of w.shape there.0) refl is))
+joined_at w (event.Arrive there here) good =
+    joined_if w (event.Arrive there here) here.0 there.0 (leads_to here.0 (kind_of w.shape there.0)) (λ is. arrives_so w.shape here.0 there.0 (kind_of w.shape there.0) refl is)
 joined_at w (event.Turn t n) good = free w (event.Turn t n) (places w.shape (event.Turn t n)) (λ p q. tt)
 joined_at w (event.Deliver t) good = free w (event.Deliver t) (places w.shape (event.Deliver t)) (λ p q. tt)
 joined_at w (event.Route x) good = free w (event.Route x) (places w.shape (event.Route x)) (λ p q. tt)

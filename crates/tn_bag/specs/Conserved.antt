@@ -7,7 +7,8 @@ use Rattle.tn_base.specs.declared.op.Op.TheVariants as op
 use Rattle.tn_bag.specs.declared.steps.BagStep.{BagStep}
 use Rattle.tn_bag.specs.declared.steps.BagStep.TheVariants as bag
 use Rattle.tn_base.specs.Address.{has_thread}
-use Rattle.tn_bag.specs.Letters.{SameBag, letters, only_if}
+use Rattle.tn_keys.specs.Copies.{only_if}
+use Rattle.tn_bag.specs.Letters.{SameBag, letters}
 use Rattle.tn_bag.specs.Machine.{BagRun, own_step}
 use Rattle.tn_bag.specs.State.{BagState, Program}
 

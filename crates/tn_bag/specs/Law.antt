@@ -4,8 +4,11 @@ use Rattle.tn_base.specs.declared.event.Event.{Event}
 use Rattle.tn_base.specs.declared.shape.ShapeNumbers.{ShapeNumbers}
 use Rattle.tn_base.specs.Address.{has_thread}
 use Rattle.tn_base.specs.Shape.{is_shape}
+use Rattle.tn_keys.specs.Accepted.{Accepted}
+use Rattle.tn_keys.specs.Tables.{Table}
+use Rattle.tn_router.specs.Kept.{fresh_router}
 use Rattle.tn_rows.specs.Events.{IsWorld}
-use Rattle.tn_rows.specs.PartView.{PartView, TileV, LinkV, AbsentV}
+use Rattle.tn_rows.specs.PartView.{PartView, TileV, RouterV, LinkV, AbsentV}
 use Rattle.tn_rows.specs.Runs.{Run}
 use Rattle.tn_rows.specs.WorldView.{WorldView}
 use Rattle.tn_thread.specs.declared.thread.Thread.{Thread}
@@ -15,23 +18,27 @@ use Rattle.tn_bag.specs.Machine.{BagRun}
 use Rattle.tn_bag.specs.Standing.{bag_at, standing_letters}
 use Rattle.tn_bag.specs.State.{Agree, BagState}
 use Rattle.tn_bag.specs.Steps.{bag_of}
-use Rattle.tn_bag.specs.Tiles.{held_of, program_of, thread_of}
+use Rattle.tn_bag.specs.Tiles.{held_of, program_of, tables_of, thread_of}
 
--- a tile at its start is over some code, with its threads at their start; a link holds no packet
+-- a tile at its start is over some code, with its threads at their start; a router has some table, and like a link it
+-- holds no packet
 abbrev pub StartsSo : ShapeNumbers → PartView → Type 0
 StartsSo n (TileV v) = (words : List ℕ) × (threads : List Thread) × AreStarts n v.tile threads × (v ≡ fresh_tile n v.tile words threads)
+StartsSo n (RouterV v) = (beats : Table) × (v ≡ fresh_router n v.board beats)
 StartsSo n (LinkV v) = v ≡ record { packets = []; capacity = n.link }
 StartsSo n AbsentV = Unit {0}
 
--- the start of a machine: the parts are those of its shape, and each is at its start
+-- the start of a machine: the parts are those of its shape, each is at its start, and the routers' tables are accepted
 pub record IsStart (w : WorldView) : Type 0 where
   pub shape : IsTrue (is_shape w.shape)
   pub world : IsWorld w
   pub parts : (p : ℕ) → p < length w.parts → StartsSo w.shape (slice_index_or w.parts p AbsentV)
+  pub tables : Accepted w.shape (tables_of w)
 
 -- how many letters were dropped on a part, and on all parts
 abbrev pub dropped_on : PartView → ℕ
 dropped_on (TileV v) = v.dropped
+dropped_on (RouterV v) = 0
 dropped_on (LinkV v) = 0
 dropped_on AbsentV = 0
 

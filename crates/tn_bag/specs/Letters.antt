@@ -1,7 +1,6 @@
 -- Letters: what one packet is for each of its receivers. Bags: letters in no order.
-use Rattle.std.specs.Prelude.{ℕ, ◌≡◌, ◌%◌, ◌==◌, Bool, List, [], ◌∷◌, map, count_by, if◌then◌else◌}
+use Rattle.std.specs.Prelude.{ℕ, ◌≡◌, ◌%◌, ◌==◌, Bool, false, List, [], ◌∷◌, map, count_by, if◌then◌else◌}
 use Rattle.std.specs.Int.{bit_at}
-use Rattle.std.specs.List.{flat_map, range_with_len}
 use Rattle.tn_base.specs.declared.ids.Board.{Board}
 use Rattle.tn_base.specs.declared.message.Dest.{Dest}
 use Rattle.tn_base.specs.declared.message.Dest.TheVariants as dest
@@ -14,19 +13,13 @@ use Rattle.tn_base.specs.Address.{in_tile, tile_threads}
 use Rattle.tn_base.specs.Message.{has_packet}
 use Rattle.tn_base.specs.Parts.{kind_of}
 use Rattle.tn_base.specs.Ports.{board_x, board_y}
+use Rattle.tn_keys.specs.Copies.{Copy, each_below, only_if}
+use Rattle.tn_keys.specs.Reach.{Reach}
+use Rattle.tn_router.specs.Kept.{is_keyed}
 
 -- the address of the host, as an origin and as a receiver
 abbrev pub host_address : ℕ
 host_address = 0x40000000
-
--- what a keyed message is for one of its receivers: its bytes may begin with a local key
-pub record Copy : Type 0 where
-  pub receiver : ℕ
-  pub bytes : List ℕ
-
--- where keys lead: from a board, by a key, the copies of a message of these bytes, in order
-abbrev pub Reach : Type 0
-Reach = Board → ℕ → List ℕ → List Copy
 
 -- the board of an address; the host's is the first one
 abbrev pub board_of : ℕ → Board
@@ -55,13 +48,9 @@ link_board n p = board_ahead n (kind_of n p)
 abbrev pub letter : ℕ → ℕ → ℕ → List ℕ → Letter
 letter origin number receiver bytes = record { origin = origin; number = number; receiver = receiver; bytes = bytes }
 
--- an element where a test holds, else none
-abbrev pub only_if : {A : Type 0} → Bool → A → List A
-only_if holds x = if holds then x ∷ [] else []
-
--- what each number below a count gives, in order
-abbrev pub each_below : {A : Type 0} → ℕ → (ℕ → List A) → List A
-each_below count f = flat_map f (range_with_len 0 count)
+-- the letter that a copy of a packet is
+abbrev pub letter_for : ℕ → ℕ → Copy → Letter
+letter_for origin number c = letter origin number c.receiver c.bytes
 
 -- a letter for each thread of a tile, by ascending address, that the mask names: its bit is core * 16 + thread, the low
 -- six bits of the address
@@ -75,7 +64,7 @@ abbrev pub letters_from : Board → ShapeNumbers → Reach → ℕ → ℕ → D
 letters_from board n reach origin number (dest.Thread t) bytes = letter origin number t.0 bytes ∷ []
 letters_from board n reach origin number dest.Host bytes = letter origin number host_address bytes ∷ []
 letters_from board n reach origin number (dest.Mask tile mask) bytes = masked_letters n origin number tile.0 mask bytes
-letters_from board n reach origin number (dest.Key key) bytes = map (λ (c : Copy). letter origin number c.receiver c.bytes) (reach board key bytes)
+letters_from board n reach origin number (dest.Key key) bytes = map (letter_for origin number) (reach board key bytes)
 
 -- the letters of a send: its key is looked up at the sender's board
 abbrev pub letters : ShapeNumbers → Reach → ℕ → ℕ → Dest → List ℕ → List Letter
@@ -89,6 +78,10 @@ packet_letters n reach p = letters n reach p.origin p.number p.dest p.bytes
 -- receivers
 abbrev pub letters_to : Board → ShapeNumbers → Reach → Packet → List Letter
 letters_to board n reach p = if has_packet n p then letters_from board n reach p.origin p.number p.dest p.bytes else []
+
+-- the letters of a packet without a key are these, wherever keys lead
+abbrev pub IsPlain : ShapeNumbers → Packet → List Letter → Type 0
+IsPlain n p all = (board : Board) (reach : Reach) → is_keyed p.dest ≡ false → all ≡ letters_from board n reach p.origin p.number p.dest p.bytes
 
 -- two bags are the same: each test is passed by as many letters of the one as of the other
 pub record SameBag (xs ys : List Letter) : Type 0 where

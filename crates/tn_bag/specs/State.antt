@@ -5,7 +5,8 @@ use Rattle.tn_base.specs.declared.message.Letter.{Letter}
 use Rattle.tn_base.specs.declared.shape.ShapeNumbers.{ShapeNumbers}
 use Rattle.tn_base.specs.Address.{has_thread}
 use Rattle.tn_thread.specs.declared.thread.Thread.{Thread}
-use Rattle.tn_bag.specs.Letters.{Reach, SameBag}
+use Rattle.tn_keys.specs.Reach.{Reach}
+use Rattle.tn_bag.specs.Letters.{SameBag}
 
 -- what no step changes
 pub record Program : Type 0 where

@@ -3,8 +3,7 @@
 ghost use Rattle.std.specs.Prelude.{◌≡◌, ◌∷◌, [], IfOk, IsTrue};
 ghost use Rattle.tn_base.specs.Address.{has_tile};
 ghost use Rattle.tn_base.specs.Message.{has_packet};
-ghost use Rattle.tn_bag.specs.Letters.{masked_letters, packet_letters};
-ghost use Rattle.tn_bag.specs.Tiles.{no_reach};
+ghost use Rattle.tn_bag.specs.Letters.{IsPlain, masked_letters};
 
 use std::alloc::{AllocError, Global};
 use tn_base::ids::TileId;
@@ -13,7 +12,7 @@ use tn_base::message::{Dest, HOST, Letter, Packet};
 use tn_base::shape::Shape;
 
 /// What a packet is for one receiver.
-fn letter_for(packet: &Packet, receiver: u32) -> Letter
+pub(crate) fn letter_for(packet: &Packet, receiver: u32) -> Letter
     ensures { result ≡ record { origin = packet.now.origin; number = packet.now.number; receiver = receiver; bytes = packet.now.bytes } }
 {
     Letter {
@@ -24,11 +23,15 @@ fn letter_for(packet: &Packet, receiver: u32) -> Letter
     }
 }
 
-/// The letters of a packet: one for a thread or the host, one for each thread that a mask names, ascending. No router has
-/// tables yet, so a key leads nowhere.
-pub fn letters_of(alloc: Global, shape: &Shape, packet: &Packet) -> Result<Vec<Letter>, AllocError>
+/// The letters of a packet without a key: one for a thread or the host, one for each thread that a mask names, ascending.
+/// They are the same wherever keys lead.
+pub(crate) fn plain_letters(
+    alloc: Global,
+    shape: &Shape,
+    packet: &Packet,
+) -> Result<Vec<Letter>, AllocError>
     requires { IsTrue (has_packet shape.now packet.now) }
-    ensures { IfOk result (λ all. all.items ≡ packet_letters shape.now no_reach packet.now) }
+    ensures { IfOk result (λ all. IsPlain shape.now packet.now all.items) }
 {
     match packet.dest {
         Dest::Thread(t) => one_letter(alloc, letter_for(packet, t.0)),

@@ -3,10 +3,12 @@
 //! The bag machine stands in `specs/Machine.antt`. Read `specs/State.antt` before it, then `specs/Law.antt`.
 #![tactic(auto)]
 
+mod keyed;
 pub mod laws;
 mod letters;
 pub mod place;
 pub mod places;
+mod router;
 pub mod spell;
 pub mod steps;
 #[cfg(test)]

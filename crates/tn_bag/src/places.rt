@@ -4,15 +4,15 @@ ghost use Rattle.std.specs.Prelude.{◌≡◌, ◌<◌, ◌++◌, IfOk, IsTrue, 
 ghost use Rattle.tn_base.specs.Address.{tile_threads};
 ghost use Rattle.tn_base.specs.Message.{has_packet};
 ghost use Rattle.tn_bag.specs.Standing.{crossing_at, link_standing, owed_standing, part_standing, pending_standing, slots_standing, standing, tile_standing, transit_standing, waiting};
-ghost use Rattle.tn_bag.specs.Tiles.{no_reach};
+ghost use Rattle.tn_bag.specs.Tiles.{reach_of};
 
-use crate::letters::letters_of;
+use crate::keyed::{board_of, letters_at, link_board};
 use crate::place::Place;
+use crate::router::push_router;
 use std::alloc::{AllocError, Global};
 use tn_base::ids::PartId;
 use tn_base::message::{Letter, Packet};
 use tn_base::port::Port;
-use tn_base::shape::Shape;
 use tn_link::link::Link;
 use tn_tile::tile::Tile;
 use tn_world::part::Part;
@@ -28,7 +28,7 @@ pub fn standing<L: Link>(
 {
     let mut all = Vec::new(alloc);
     for p in 0..world.shape().part_count() {
-        push_part(&mut all, alloc, world.shape(), p, world.part(PartId(p)))?;
+        push_part(&mut all, alloc, world, p, world.part(PartId(p)))?;
     }
     Ok(all)
 }
@@ -37,32 +37,36 @@ pub fn standing<L: Link>(
 fn push_part<L: Link>(
     all: &mut Vec<(Place, Letter)>,
     alloc: Global,
-    shape: &Shape,
+    world: &World<L>,
     p: u32,
     part: &Part<L>,
 ) -> Result<(), AllocError>
-    ensures { OnOk result (all.new.items ≡ all.old.items ++ part_standing shape.now no_reach p part.now) }
+    ensures { OnOk result (all.new.items ≡ all.old.items ++ part_standing world.now.shape (reach_of world.now) p part.now) }
 {
     if let Some(tile) = part.as_tile() {
-        return push_tile(all, alloc, p, tile);
+        return push_tile(all, alloc, world, p, tile);
+    }
+    if let Some(router) = part.as_router() {
+        return push_router(all, alloc, world, p, router);
     }
     if let Some(link) = part.as_link() {
-        return push_link(all, alloc, shape, p, link);
+        return push_link(all, alloc, world, p, link);
     }
     Ok(())
 }
 
 /// The letters on a tile.
-fn push_tile(
+fn push_tile<L: Link>(
     all: &mut Vec<(Place, Letter)>,
     alloc: Global,
+    world: &World<L>,
     p: u32,
     tile: &Tile,
 ) -> Result<(), AllocError>
-    ensures { OnOk result (all.new.items ≡ all.old.items ++ tile_standing no_reach p tile.now) }
+    ensures { OnOk result (all.new.items ≡ all.old.items ++ tile_standing (reach_of world.now) p tile.now) }
 {
-    push_pending(all, alloc, tile)?;
-    push_transit(all, alloc, p, tile)?;
+    push_pending(all, alloc, world, tile)?;
+    push_transit(all, alloc, world, p, tile)?;
     push_slots(all, tile)
 }
 
@@ -70,46 +74,48 @@ fn push_tile(
 fn push_link<L: Link>(
     all: &mut Vec<(Place, Letter)>,
     alloc: Global,
-    shape: &Shape,
+    world: &World<L>,
     p: u32,
     link: &L,
 ) -> Result<(), AllocError>
-    ensures { OnOk result (all.new.items ≡ all.old.items ++ link_standing shape.now no_reach p (L.content link.now)) }
+    ensures { OnOk result (all.new.items ≡ all.old.items ++ link_standing world.now.shape (reach_of world.now) p (L.content link.now)) }
 {
     for i in 0..link.len() {
-        push_crossing(all, alloc, shape, p, i, link.get(i))?;
+        push_crossing(all, alloc, world, p, i, link.get(i))?;
     }
     Ok(())
 }
 
 /// The letters of the packet at a place of a link. One that is none of the machine's has no receivers.
-fn push_crossing(
+fn push_crossing<L: Link>(
     all: &mut Vec<(Place, Letter)>,
     alloc: Global,
-    shape: &Shape,
+    world: &World<L>,
     p: u32,
     i: u32,
     packet: Option<&Packet>,
 ) -> Result<(), AllocError>
-    ensures { OnOk result (all.new.items ≡ all.old.items ++ crossing_at shape.now no_reach p i (option_copied packet.entry)) }
+    ensures { OnOk result (all.new.items ≡ all.old.items ++ crossing_at world.now.shape (reach_of world.now) p i (option_copied packet.entry)) }
 {
     let Some(packet) = packet else {
         return Ok(());
     };
+    let shape = world.shape();
     if !shape.has_packet(packet) {
         return Ok(());
     }
-    let letters = letters_of(alloc, shape, packet)?;
+    let letters = letters_at(alloc, world, shape, link_board(shape, p), packet)?;
     push_letters(all, Place::OnLink(PartId(p), i), &letters)
 }
 
 /// The letters of the packets that the threads of a tile sent.
-fn push_pending(
+fn push_pending<L: Link>(
     all: &mut Vec<(Place, Letter)>,
     alloc: Global,
+    world: &World<L>,
     tile: &Tile,
 ) -> Result<(), AllocError>
-    ensures { OnOk result (all.new.items ≡ all.old.items ++ pending_standing no_reach tile.now) }
+    ensures { OnOk result (all.new.items ≡ all.old.items ++ pending_standing (reach_of world.now) tile.now) }
 {
     tile.kept();
     let _numbers = tile.shape().numbers();
@@ -118,6 +124,7 @@ fn push_pending(
         push_packet(
             all,
             alloc,
+            world,
             tile,
             Place::Pending(thread),
             tile.pending(thread),
@@ -127,19 +134,21 @@ fn push_pending(
 }
 
 /// The letters of the packets that go on from a tile.
-fn push_transit(
+fn push_transit<L: Link>(
     all: &mut Vec<(Place, Letter)>,
     alloc: Global,
+    world: &World<L>,
     p: u32,
     tile: &Tile,
 ) -> Result<(), AllocError>
-    ensures { OnOk result (all.new.items ≡ all.old.items ++ transit_standing no_reach p tile.now) }
+    ensures { OnOk result (all.new.items ≡ all.old.items ++ transit_standing (reach_of world.now) p tile.now) }
 {
     tile.kept();
     let part = PartId(p);
     push_packet(
         all,
         alloc,
+        world,
         tile,
         Place::Transit(part, Port::East),
         tile.buffer(Port::East),
@@ -147,6 +156,7 @@ fn push_transit(
     push_packet(
         all,
         alloc,
+        world,
         tile,
         Place::Transit(part, Port::West),
         tile.buffer(Port::West),
@@ -154,6 +164,7 @@ fn push_transit(
     push_packet(
         all,
         alloc,
+        world,
         tile,
         Place::Transit(part, Port::South),
         tile.buffer(Port::South),
@@ -161,6 +172,7 @@ fn push_transit(
     push_packet(
         all,
         alloc,
+        world,
         tile,
         Place::Transit(part, Port::North),
         tile.buffer(Port::North),
@@ -168,6 +180,7 @@ fn push_transit(
     push_packet(
         all,
         alloc,
+        world,
         tile,
         Place::Transit(part, Port::Up),
         tile.buffer(Port::Up),
@@ -176,26 +189,27 @@ fn push_transit(
 }
 
 /// The letters of a packet that waits at a place.
-fn push_packet(
+fn push_packet<L: Link>(
     all: &mut Vec<(Place, Letter)>,
     alloc: Global,
+    world: &World<L>,
     tile: &Tile,
     place: Place,
     packet: Option<&Packet>,
 ) -> Result<(), AllocError>
     requires { MatchOption packet (Unit {0}) (λ p. IsTrue (has_packet tile.now.shape p.now)) }
-    ensures { OnOk result (all.new.items ≡ all.old.items ++ waiting tile.now.shape no_reach place (option_copied packet.entry)) }
+    ensures { OnOk result (all.new.items ≡ all.old.items ++ waiting tile.now.shape (reach_of world.now) place (option_copied packet.entry)) }
 {
     let Some(packet) = packet else {
         return Ok(());
     };
-    let letters = letters_of(alloc, &tile.shape(), packet)?;
-    push_letters(all, place, &letters)?;
-    Ok(())
+    let board = board_of(packet.origin);
+    let letters = letters_at(alloc, world, &tile.shape(), board, packet)?;
+    push_letters(all, place, &letters)
 }
 
 /// Letters at one place.
-fn push_letters(
+pub(crate) fn push_letters(
     all: &mut Vec<(Place, Letter)>,
     place: Place,
     letters: &[Letter],

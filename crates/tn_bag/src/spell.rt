@@ -13,11 +13,11 @@ ghost use Rattle.tn_rows.specs.PartView.{tile_of};
 ghost use Rattle.tn_rows.specs.Places.{part_of};
 ghost use Rattle.tn_rows.specs.Runs.{Run};
 ghost use Rattle.tn_rows.specs.WorldView.{WorldView};
-ghost use Rattle.tn_bag.specs.Letters.{only_if};
+ghost use Rattle.tn_keys.specs.Copies.{only_if};
 ghost use Rattle.tn_bag.specs.Steps.{bag_of, delivery_steps, event_steps, is_for_dead};
-ghost use Rattle.tn_bag.specs.Tiles.{no_reach};
+ghost use Rattle.tn_keys.specs.Reach.{Reach};
 
-use crate::letters::letters_of;
+use crate::letters::plain_letters;
 use crate::steps::BagStep;
 use crate::turns::push_turn;
 use std::alloc::{AllocError, Global};
@@ -109,13 +109,13 @@ fn push_sent(
     t: ThreadId,
 ) -> Result<(), AllocError>
     requires { IsTrue (is_here t.0 tile.now) }
-    ensures { OnOk result (all.new.items ≡ all.old.items ++ delivery_steps no_reach (pending_at tile.now (place_in_tile tile.now.shape t.0)) tile.now) }
+    ensures { OnOk result ((reach : Reach) → all.new.items ≡ all.old.items ++ delivery_steps reach (pending_at tile.now (place_in_tile tile.now.shape t.0)) tile.now) }
 {
     tile.kept();
     push_delivery(all, alloc, tile, tile.pending(t))
 }
 
-/// The letters that are dropped where a packet comes to a tile.
+/// The letters that are dropped where a packet comes to a tile. Its receivers are there, so it has no key.
 fn push_delivery(
     all: &mut Vec<BagStep>,
     alloc: Global,
@@ -123,7 +123,7 @@ fn push_delivery(
     packet: Option<&Packet>,
 ) -> Result<(), AllocError>
     requires { MatchOption packet (Unit {0}) (λ p. IsTrue (has_packet tile.now.shape p.now)) }
-    ensures { OnOk result (all.new.items ≡ all.old.items ++ delivery_steps no_reach (option_copied packet.entry) tile.now) }
+    ensures { OnOk result ((reach : Reach) → all.new.items ≡ all.old.items ++ delivery_steps reach (option_copied packet.entry) tile.now) }
 {
     let Some(packet) = packet else {
         return Ok(());
@@ -131,7 +131,7 @@ fn push_delivery(
     if tile.name().port(&packet.dest) != Port::Here {
         return Ok(());
     }
-    let letters = letters_of(alloc, &tile.shape(), packet)?;
+    let letters = plain_letters(alloc, &tile.shape(), packet)?;
     push_dead(all, tile, &letters)
 }
 

@@ -1,6 +1,6 @@
-//! The letters of packets, by receiver.
+//! The letters of packets without keys, by receiver.
 
-use crate::letters::letters_of;
+use crate::letters::plain_letters;
 use std::alloc::{AllocError, Global};
 use std::test::Fail;
 use tn_base::bytes::Bytes;
@@ -40,7 +40,7 @@ fn receivers(alloc: Global, shape: &Shape, dest: Dest) -> Result<Vec<u32>, Alloc
         bytes,
     };
     if shape.has_packet(&packet) {
-        for letter in &letters_of(alloc, shape, &packet)? {
+        for letter in &plain_letters(alloc, shape, &packet)? {
             all.push(letter.receiver)?;
         }
     }
@@ -57,7 +57,6 @@ fn letters(rt: HostRuntime) -> Result<(), Fail> {
         receivers(alloc, &shape, Dest::Thread(ThreadId(18)))?.as_slice() == [18].as_slice()
     );
     assert!(rt; receivers(alloc, &shape, Dest::Host)?.as_slice() == [HOST].as_slice());
-    assert!(rt; receivers(alloc, &shape, Dest::Key(5))?.is_empty());
     assert!(rt; receivers(alloc, &shape, Dest::Thread(ThreadId(3)))?.is_empty());
     Ok(())
 }

@@ -13,9 +13,11 @@ use Rattle.tn_stamp.specs.declared.entry.Crossing.{Crossing}
 use Rattle.tn_stamp.specs.declared.entry.Crossing.TheVariants as crossing
 use Rattle.tn_tile.specs.Rows.{accept_row, depart_row, departed_with, offered}
 use Rattle.tn_tile.specs.TileView.{TileView}
-use Rattle.tn_rows.specs.Events.{Met, after, crossing_of, meets, met_by, met_with}
-use Rattle.tn_rows.specs.PartView.{PartView, TileV, LinkV, AbsentV}
-use Rattle.tn_rows.specs.Places.{link_way}
+use Rattle.tn_router.specs.RouterView.{RouterView}
+use Rattle.tn_router.specs.Rows.{accept_row as router_accepts, depart_row as router_departs, departed_with as router_departed_with, offered as router_offers}
+use Rattle.tn_rows.specs.Events.{Met, after, crossing_of, given_to, meets, met_by, met_with}
+use Rattle.tn_rows.specs.PartView.{PartView, TileV, RouterV, LinkV, AbsentV}
+use Rattle.tn_rows.specs.Places.{link_side, link_way}
 use Rattle.tn_rows.specs.SamePacket.{is_packet, same_bytes, same_dest, same_packet}
 
 -- ---- a packet is the same as itself
@@ -95,79 +97,119 @@ some_met (Some a) (Some b) = refl
 some_met (Some a) None = refl
 some_met None b = refl
 
-some_both : (t : Option TileView) (l : Option LinkView) → is_some (met_by (option_map TileV t) (option_map LinkV l)) ≡ (is_some t && is_some l)
-some_both t l =
-    some_met (option_map TileV t) (option_map LinkV l)
-    ∙ ap (λ a. a && is_some (option_map LinkV l)) (some_mapped TileV t)
-    ∙ ap (λ b. is_some t && b) (some_mapped LinkV l)
+pub if_some : {X : Type 0} (b : Bool) (x : X) → is_some (cond b (Some x) None) ≡ b
+if_some true x = refl
+if_some false x = refl
 
--- ---- a departure of a tile
+pub and_true : (b : Bool) → (b && true) ≡ b
+and_true true = refl
+and_true false = refl
 
-pub departs_met : (p l : PartId) (v : TileView) (x : LinkView) (k : Packet) → offered (link_way v.shape l.0) v ≡ Some k →
-    meets (event.Depart p l) (TileV v) (LinkV x) ≡ met_by (option_map TileV (depart_row (link_way v.shape l.0) v)) (option_map LinkV (put_in k x))
-departs_met p l v x k e =
-    ap (λ o. met_with (event.Depart p l) (TileV v) (LinkV x) (option_map crossing.Packet o)) e
-    ∙ ap (λ o. met_by (option_map TileV o) (option_map LinkV (put_in k x))) (gives (offered (link_way v.shape l.0) v) k (depart_row (link_way v.shape l.0) v) e)
+-- ---- a departure, by what the part gives and by its row
+
+depart_meets : (p l : PartId) (low : PartView) (x : LinkView) (k : Packet) (row : Option PartView) → given_to l.0 low ≡ Some k → after (event.Depart p l) (crossing.Packet k) low ≡ row →
+    meets (event.Depart p l) low (LinkV x) ≡ met_by row (option_map LinkV (put_in k x))
+depart_meets p l low x k row e is =
+    ap (λ o. met_with (event.Depart p l) low (LinkV x) (option_map crossing.Packet o)) e
+    ∙ ap (λ o. met_by o (option_map LinkV (put_in k x))) is
+
+departs : (p l : PartId) (low new : PartView) (x y : LinkView) (k : Packet) → given_to l.0 low ≡ Some k → after (event.Depart p l) (crossing.Packet k) low ≡ Some new → put_in k x ≡ Some y →
+    meets (event.Depart p l) low (LinkV x) ≡ Some (record { low = new; high = LinkV y })
+departs p l low new x y k e row put =
+    depart_meets p l low x k (Some new) e row
+    ∙ ap (λ o. met_by (Some new) (option_map LinkV o)) put
+
+can_depart_by : (p l : PartId) (low : PartView) (x : LinkView) (row : Bool) (o : Option Packet) → given_to l.0 low ≡ o → ((k : Packet) → o ≡ Some k → is_some (after (event.Depart p l) (crossing.Packet k) low) ≡ row) → (o ≡ None → row ≡ false) →
+    is_some (meets (event.Depart p l) low (LinkV x)) ≡ (row && ltb (length x.packets) x.capacity)
+can_depart_by p l low x row None e some none =
+    let low_not : is_some (meets (event.Depart p l) low (LinkV x)) ≡ false = ap (λ (o : Option Packet). is_some (met_with (event.Depart p l) low (LinkV x) (option_map crossing.Packet o))) e in
+    let row_not : (row && ltb (length x.packets) x.capacity) ≡ false = ap (λ b. b && ltb (length x.packets) x.capacity) (none refl) in
+    low_not ∙ sym row_not
+can_depart_by p l low x row (Some k) e some none =
+    ap (λ (m : Option Met). is_some m) (depart_meets p l low x k (after (event.Depart p l) (crossing.Packet k) low) e refl)
+    ∙ some_met (after (event.Depart p l) (crossing.Packet k) low) (option_map LinkV (put_in k x))
+    ∙ ap (λ b. b && is_some (option_map LinkV (put_in k x))) (some k refl)
+    ∙ ap (λ b. row && b) (some_mapped LinkV (put_in k x))
+    ∙ ap (λ b. row && b) (if_some (ltb (length x.packets) x.capacity) _)
+
+-- ---- of a tile
+
+tile_row_is : (p l : PartId) (v : TileView) (k : Packet) → offered (link_way v.shape l.0) v ≡ Some k → after (event.Depart p l) (crossing.Packet k) (TileV v) ≡ option_map TileV (depart_row (link_way v.shape l.0) v)
+tile_row_is p l v k e = ap (λ o. option_map TileV o) (gives (offered (link_way v.shape l.0) v) k (depart_row (link_way v.shape l.0) v) e)
 
 -- it happens
 pub departed : (p l : PartId) (v w : TileView) (x y : LinkView) (k : Packet) → offered (link_way v.shape l.0) v ≡ Some k → depart_row (link_way v.shape l.0) v ≡ Some w → put_in k x ≡ Some y →
     meets (event.Depart p l) (TileV v) (LinkV x) ≡ Some (record { low = TileV w; high = LinkV y })
-departed p l v w x y k e row put =
-    departs_met p l v x k e
-    ∙ ap (λ o. met_by (option_map TileV o) (option_map LinkV (put_in k x))) row
-    ∙ ap (λ o. met_by (Some (TileV w)) (option_map LinkV o)) put
-
-if_some : {X : Type 0} (b : Bool) (x : X) → is_some (cond b (Some x) None) ≡ b
-if_some true x = refl
-if_some false x = refl
-
-can_depart_by : (p l : PartId) (v : TileView) (x : LinkView) (o : Option Packet) → offered (link_way v.shape l.0) v ≡ o →
-    is_some (meets (event.Depart p l) (TileV v) (LinkV x)) ≡ (is_some (depart_row (link_way v.shape l.0) v) && ltb (length x.packets) x.capacity)
-can_depart_by p l v x None e =
-    let low : is_some (meets (event.Depart p l) (TileV v) (LinkV x)) ≡ false = ap (λ (o : Option Packet). is_some (met_with (event.Depart p l) (TileV v) (LinkV x) (option_map crossing.Packet o))) e in
-    let row : (is_some (depart_row (link_way v.shape l.0) v) && ltb (length x.packets) x.capacity) ≡ false = ap (λ (o : Option Packet). is_some (departed_with o (link_way v.shape l.0) v) && ltb (length x.packets) x.capacity) e in
-    low ∙ sym row
-can_depart_by p l v x (Some k) e =
-    ap (λ (m : Option Met). is_some m) (departs_met p l v x k e)
-    ∙ some_both (depart_row (link_way v.shape l.0) v) (put_in k x)
-    ∙ ap (λ b. is_some (depart_row (link_way v.shape l.0) v) && b) (if_some (ltb (length x.packets) x.capacity) _)
+departed p l v w x y k e row put = departs p l (TileV v) (TileV w) x y k e (tile_row_is p l v k e ∙ ap (λ o. option_map TileV o) row) put
 
 -- and it can, where the tile can give its packet and the link has room
 pub can_depart : (p l : PartId) (v : TileView) (x : LinkView) →
     is_some (meets (event.Depart p l) (TileV v) (LinkV x)) ≡ (is_some (depart_row (link_way v.shape l.0) v) && ltb (length x.packets) x.capacity)
-can_depart p l v x = can_depart_by p l v x (offered (link_way v.shape l.0) v) refl
+can_depart p l v x =
+    can_depart_by p l (TileV v) x (is_some (depart_row (link_way v.shape l.0) v)) (offered (link_way v.shape l.0) v) refl
+    (λ k e. ap (λ (o : Option PartView). is_some o) (tile_row_is p l v k e) ∙ some_mapped TileV (depart_row (link_way v.shape l.0) v))
+    (λ e. ap (λ (o : Option Packet). is_some (departed_with o (link_way v.shape l.0) v)) e)
 
--- ---- an arrival at a tile
+-- ---- of a router
 
-pub arrives_met : (l p : PartId) (v : TileView) (x : LinkView) (k : Packet) → front_of x ≡ Some k →
-    meets (event.Arrive l p) (TileV v) (LinkV x) ≡ met_by (option_map TileV (accept_row k v)) (option_map LinkV (take_from x))
-arrives_met l p v x k e =
-    ap (λ o. met_with (event.Arrive l p) (TileV v) (LinkV x) (option_map crossing.Packet o)) e
-    ∙ ap (λ o. met_by (option_map TileV (accept_row k v)) (option_map LinkV o)) (gives (front_of x) k (take_from x) e)
+router_row_is : (p l : PartId) (v : RouterView) (k : Packet) → router_offers (link_way v.shape l.0) v ≡ Some k → after (event.Depart p l) (crossing.Packet k) (RouterV v) ≡ option_map RouterV (router_departs (link_way v.shape l.0) v)
+router_row_is p l v k e = ap (λ o. option_map RouterV o) (gives (router_offers (link_way v.shape l.0) v) k (router_departs (link_way v.shape l.0) v) e)
 
-pub arrived_met : (l p : PartId) (v w : TileView) (x y : LinkView) (k : Packet) → front_of x ≡ Some k → accept_row k v ≡ Some w → take_from x ≡ Some y →
-    meets (event.Arrive l p) (TileV v) (LinkV x) ≡ Some (record { low = TileV w; high = LinkV y })
-arrived_met l p v w x y k e row taken =
-    arrives_met l p v x k e
-    ∙ ap (λ o. met_by (option_map TileV o) (option_map LinkV (take_from x))) row
-    ∙ ap (λ o. met_by (Some (TileV w)) (option_map LinkV o)) taken
+pub router_departed : (p l : PartId) (v w : RouterView) (x y : LinkView) (k : Packet) → router_offers (link_way v.shape l.0) v ≡ Some k → router_departs (link_way v.shape l.0) v ≡ Some w → put_in k x ≡ Some y →
+    meets (event.Depart p l) (RouterV v) (LinkV x) ≡ Some (record { low = RouterV w; high = LinkV y })
+router_departed p l v w x y k e row put = departs p l (RouterV v) (RouterV w) x y k e (router_row_is p l v k e ∙ ap (λ o. option_map RouterV o) row) put
+
+pub router_can_depart : (p l : PartId) (v : RouterView) (x : LinkView) →
+    is_some (meets (event.Depart p l) (RouterV v) (LinkV x)) ≡ (is_some (router_departs (link_way v.shape l.0) v) && ltb (length x.packets) x.capacity)
+router_can_depart p l v x =
+    can_depart_by p l (RouterV v) x (is_some (router_departs (link_way v.shape l.0) v)) (router_offers (link_way v.shape l.0) v) refl
+    (λ k e. ap (λ (o : Option PartView). is_some o) (router_row_is p l v k e) ∙ some_mapped RouterV (router_departs (link_way v.shape l.0) v))
+    (λ e. ap (λ (o : Option Packet). is_some (router_departed_with o (link_way v.shape l.0) v)) e)
+
+-- ---- an arrival, by the row of the part that takes the packet
+
+arrive_meets : (l p : PartId) (low : PartView) (x : LinkView) (k : Packet) → front_of x ≡ Some k →
+    meets (event.Arrive l p) low (LinkV x) ≡ met_by (after (event.Arrive l p) (crossing.Packet k) low) (option_map LinkV (take_from x))
+arrive_meets l p low x k e =
+    ap (λ o. met_with (event.Arrive l p) low (LinkV x) (option_map crossing.Packet o)) e
+    ∙ ap (λ o. met_by (after (event.Arrive l p) (crossing.Packet k) low) (option_map LinkV o)) (gives (front_of x) k (take_from x) e)
+
+-- it happens
+pub arrives : (l p : PartId) (low new : PartView) (x y : LinkView) (k : Packet) → front_of x ≡ Some k → after (event.Arrive l p) (crossing.Packet k) low ≡ Some new → take_from x ≡ Some y →
+    meets (event.Arrive l p) low (LinkV x) ≡ Some (record { low = new; high = LinkV y })
+arrives l p low new x y k e row taken =
+    arrive_meets l p low x k e
+    ∙ ap (λ o. met_by o (option_map LinkV (take_from x))) row
+    ∙ ap (λ o. met_by (Some new) (option_map LinkV o)) taken
 
 rest_some : (ps : List Packet) (k : Packet) (capacity : ℕ) → first_in ps ≡ Some k → is_some (rest_in capacity ps) ≡ true
 rest_some [] k capacity e = cc e
 rest_some (p ∷ ps) k capacity e = refl
 
-and_true : (b : Bool) → (b && true) ≡ b
-and_true true = refl
-and_true false = refl
+-- and it can, where the part takes the link's first packet
+can_arrive_by : (l p : PartId) (low : PartView) (x : LinkView) (k : Packet) → front_of x ≡ Some k →
+    is_some (meets (event.Arrive l p) low (LinkV x)) ≡ is_some (after (event.Arrive l p) (crossing.Packet k) low)
+can_arrive_by l p low x k e =
+    ap (λ (m : Option Met). is_some m) (arrive_meets l p low x k e)
+    ∙ some_met (after (event.Arrive l p) (crossing.Packet k) low) (option_map LinkV (take_from x))
+    ∙ ap (λ b. is_some (after (event.Arrive l p) (crossing.Packet k) low) && b) (some_mapped LinkV (take_from x))
+    ∙ ap (λ b. is_some (after (event.Arrive l p) (crossing.Packet k) low) && b) (rest_some x.packets k x.capacity e)
+    ∙ and_true (is_some (after (event.Arrive l p) (crossing.Packet k) low))
 
--- it can, where the tile takes the link's first packet
+-- ---- at a tile
+
 pub can_arrive : (l p : PartId) (v : TileView) (x : LinkView) (k : Packet) → front_of x ≡ Some k →
     is_some (meets (event.Arrive l p) (TileV v) (LinkV x)) ≡ is_some (accept_row k v)
-can_arrive l p v x k e =
-    ap (λ (m : Option Met). is_some m) (arrives_met l p v x k e)
-    ∙ some_both (accept_row k v) (take_from x)
-    ∙ ap (λ b. is_some (accept_row k v) && b) (rest_some x.packets k x.capacity e)
-    ∙ and_true (is_some (accept_row k v))
+can_arrive l p v x k e = can_arrive_by l p (TileV v) x k e ∙ some_mapped TileV (accept_row k v)
 
 pub cannot_arrive : (l p : PartId) (v : TileView) (x : LinkView) (k : Packet) → front_of x ≡ Some k → is_some (accept_row k v) ≡ false → meets (event.Arrive l p) (TileV v) (LinkV x) ≡ None
 cannot_arrive l p v x k e not = none_is (meets (event.Arrive l p) (TileV v) (LinkV x)) (can_arrive l p v x k e ∙ not)
+
+-- ---- at a router
+
+pub router_can_arrive : (l p : PartId) (v : RouterView) (x : LinkView) (k : Packet) → front_of x ≡ Some k →
+    is_some (meets (event.Arrive l p) (RouterV v) (LinkV x)) ≡ is_some (router_accepts (link_side v.shape l.0) k v)
+router_can_arrive l p v x k e = can_arrive_by l p (RouterV v) x k e ∙ some_mapped RouterV (router_accepts (link_side v.shape l.0) k v)
+
+pub router_cannot_arrive : (l p : PartId) (v : RouterView) (x : LinkView) (k : Packet) → front_of x ≡ Some k → is_some (router_accepts (link_side v.shape l.0) k v) ≡ false → meets (event.Arrive l p) (RouterV v) (LinkV x) ≡ None
+router_cannot_arrive l p v x k e not = none_is (meets (event.Arrive l p) (RouterV v) (LinkV x)) (router_can_arrive l p v x k e ∙ not)

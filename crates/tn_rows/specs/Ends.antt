@@ -1,5 +1,5 @@
 -- How runs end.
-use Rattle.std.specs.Prelude.{ℕ, ◌≡◌, ◌==◌, ◌&&◌, Bool, true, not, List, [], ◌∷◌, Option, Some, None, MatchOption, option_and_then, slice_get, if◌then◌else◌}
+use Rattle.std.specs.Prelude.{ℕ, ◌≡◌, ◌==◌, ◌&&◌, Bool, true, not, List, [], ◌∷◌, Option, Some, None, MatchOption, option_and_then, option_map, slice_get, if◌then◌else◌}
 use Rattle.std.specs.List.{list_all}
 use Rattle.tn_base.specs.declared.event.Event.{Event}
 use Rattle.tn_base.specs.declared.event.Event.TheVariants as event
@@ -8,9 +8,10 @@ use Rattle.tn_base.specs.declared.event.Outcome.TheVariants as outcome
 use Rattle.tn_base.specs.declared.ids.ThreadId.{ThreadId}
 use Rattle.tn_base.specs.Address.{place_in_tile}
 use Rattle.tn_rows.specs.Events.{Rests}
-use Rattle.tn_rows.specs.PartView.{PartView, TileV, LinkV, AbsentV}
+use Rattle.tn_rows.specs.PartView.{PartView, TileV, RouterV, LinkV, AbsentV}
 use Rattle.tn_rows.specs.Places.{part_of}
 use Rattle.tn_rows.specs.WorldView.{WorldView}
+use Rattle.tn_router.specs.Rows.{is_still as router_rests}
 use Rattle.tn_thread.specs.declared.state.ThreadState.{ThreadState}
 use Rattle.tn_thread.specs.declared.state.ThreadState.TheVariants as state
 use Rattle.tn_thread.specs.declared.thread.Thread.{Thread}
@@ -35,12 +36,21 @@ ended_with fuel t thread = ended_by t thread.state (thread.steps == fuel)
 
 abbrev pub ended_on : ThreadId → PartView → Option Outcome
 ended_on t (TileV v) = if is_here t.0 v then ended_with v.shape.fuel t (thread_at v (place_in_tile v.shape t.0)) else None
+ended_on t (RouterV v) = None
 ended_on t (LinkV v) = None
 ended_on t AbsentV = None
 
--- how a run ends with an event after which the machine is this one, where the event is final
+-- how a run ends with a routing on a part that is now this one: its router found a bad key
+abbrev pub bad_key_on : PartView → Option Outcome
+bad_key_on (TileV v) = None
+bad_key_on (RouterV v) = option_map outcome.BadKey v.ended
+bad_key_on (LinkV v) = None
+bad_key_on AbsentV = None
+
+-- how a run ends with an event after which the machine is this one, where the event is final. Before it no part tells an end
 abbrev pub final_of : Event → WorldView → Option Outcome
 final_of (event.Turn t n) w = option_and_then (ended_on t) (option_and_then (slice_get w.parts) (part_of w.shape t))
+final_of (event.Route p) w = option_and_then bad_key_on (slice_get w.parts p.0)
 final_of _ w = None
 
 abbrev pub last_of : List Event → Option Event
@@ -56,6 +66,7 @@ final_after (Some e) w = final_of e w
 -- all threads of a part ended, and no message stands there
 abbrev pub is_over : PartView → Bool
 is_over (TileV v) = is_still v && not (has_live v)
+is_over (RouterV v) = router_rests v
 is_over (LinkV v) = is_nil v.packets
 is_over AbsentV = true
 

@@ -10,10 +10,12 @@ use Rattle.tn_base.specs.declared.shape.ShapeNumbers.{ShapeNumbers}
 use Rattle.tn_base.specs.Parts.{kind_of, part_count}
 use Rattle.tn_link.specs.LinkRows.{front_of, put_in, take_from}
 use Rattle.tn_link.specs.LinkView.{LinkView}
-use Rattle.tn_rows.specs.PartView.{PartView, TileV, LinkV, AbsentV}
-use Rattle.tn_rows.specs.Places.{Places, Nowhere, One, Two, link_way, places}
+use Rattle.tn_rows.specs.PartView.{PartView, TileV, RouterV, LinkV, AbsentV}
+use Rattle.tn_rows.specs.Places.{Places, Nowhere, One, Two, link_side, link_way, places}
 use Rattle.tn_rows.specs.SamePacket.{is_packet}
 use Rattle.tn_rows.specs.WorldView.{WorldView}
+use Rattle.tn_router.specs.RouterView.{RouterView}
+use Rattle.tn_router.specs.Rows.{accept_row as router_accepts, depart_row as router_departs, offered as router_offers, route_row}
 use Rattle.tn_stamp.specs.declared.entry.Crossing.{Crossing}
 use Rattle.tn_stamp.specs.declared.entry.Crossing.TheVariants as crossing
 use Rattle.tn_stamp.specs.declared.entry.Entry.{Entry}
@@ -28,6 +30,14 @@ tile_row (event.Depart p l) (crossing.Packet k) v = if is_packet k (offered (lin
 tile_row (event.Arrive l p) (crossing.Packet k) v = accept_row k v
 tile_row e c v = None
 
+-- a router after its side: it routes by itself, gives the packet that waits for the link, and takes any into the place in
+-- process of the side from which the link leads here
+abbrev pub router_row : Event → Crossing → RouterView → Option RouterView
+router_row (event.Route p) crossing.None v = route_row v
+router_row (event.Depart p l) (crossing.Packet k) v = if is_packet k (router_offers (link_way v.shape l.0) v) then router_departs (link_way v.shape l.0) v else None
+router_row (event.Arrive l p) (crossing.Packet k) v = router_accepts (link_side v.shape l.0) k v
+router_row e c v = None
+
 -- a link after its side. It takes any packet where there is room, and gives the first one
 abbrev pub link_row : Event → Crossing → LinkView → Option LinkView
 link_row (event.Depart p l) (crossing.Packet k) v = put_in k v
@@ -37,6 +47,7 @@ link_row e c v = None
 -- a part after its side of an event with this crossing, where that side may be
 abbrev pub after : Event → Crossing → PartView → Option PartView
 after e c (TileV v) = option_map TileV (tile_row e c v)
+after e c (RouterV v) = option_map RouterV (router_row e c v)
 after e c (LinkV v) = option_map LinkV (link_row e c v)
 after e c AbsentV = None
 
@@ -48,12 +59,14 @@ replay (entry ∷ entries) part = option_and_then (replay entries) (after entry.
 -- the packet that a part gives to link l
 abbrev pub given_to : ℕ → PartView → Option Packet
 given_to l (TileV v) = offered (link_way v.shape l) v
+given_to l (RouterV v) = router_offers (link_way v.shape l) v
 given_to l (LinkV v) = None
 given_to l AbsentV = None
 
 -- the packet that a link gives
 abbrev pub carried : PartView → Option Packet
 carried (TileV v) = None
+carried (RouterV v) = None
 carried (LinkV v) = front_of v
 carried AbsentV = None
 
@@ -109,12 +122,19 @@ Rests w = (e : Event) → happened e w ≡ None
 -- a part is what the shape names at its place
 abbrev pub FitsKind : ShapeNumbers → Kind → PartView → Type 0
 FitsKind n (kind.Tile tile) (TileV v) = (v.shape ≡ n) × (v.tile ≡ tile.0)
+FitsKind n (kind.Tile tile) (RouterV v) = ⊥
 FitsKind n (kind.Tile tile) (LinkV v) = ⊥
 FitsKind n (kind.Tile tile) AbsentV = ⊥
+FitsKind n (kind.Router board) (TileV v) = ⊥
+FitsKind n (kind.Router board) (RouterV v) = (v.shape ≡ n) × (v.board ≡ board)
+FitsKind n (kind.Router board) (LinkV v) = ⊥
+FitsKind n (kind.Router board) AbsentV = ⊥
 FitsKind n (kind.Link from onto) (TileV v) = ⊥
+FitsKind n (kind.Link from onto) (RouterV v) = ⊥
 FitsKind n (kind.Link from onto) (LinkV v) = v.capacity ≡ n.link
 FitsKind n (kind.Link from onto) AbsentV = ⊥
 FitsKind n _ (TileV v) = ⊥
+FitsKind n _ (RouterV v) = ⊥
 FitsKind n _ (LinkV v) = ⊥
 FitsKind n _ AbsentV = Unit {0}
 

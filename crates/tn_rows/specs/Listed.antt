@@ -9,7 +9,7 @@ use Rattle.tn_base.specs.declared.shape.ShapeNumbers.{ShapeNumbers}
 use Rattle.tn_base.specs.Address.{thread_at}
 use Rattle.tn_base.specs.Parts.{kind_of, part_count}
 use Rattle.tn_base.specs.Shape.{thread_count}
-use Rattle.tn_rows.specs.Places.{leads_from, leads_to}
+use Rattle.tn_rows.specs.Places.{is_router, leads_from, leads_to}
 
 -- the thread at a place of the machine by ascending address
 abbrev pub nth_thread : ShapeNumbers → ℕ → ThreadId
@@ -43,6 +43,10 @@ arrivals_from n l = flat_map (λ p. event_if (leads_to p (kind_of n l)) (event.A
 abbrev pub arrivals : ShapeNumbers → List Event
 arrivals n = flat_map (arrivals_from n) (range_with_len 0 (part_count n))
 
+-- routings, by router
+abbrev pub routings : ShapeNumbers → List Event
+routings n = flat_map (λ p. event_if (is_router (kind_of n p)) (event.Route (part_id p))) (range_with_len 0 (part_count n))
+
 -- the events that can be enabled, in their order
 abbrev pub listed : ShapeNumbers → List Event
-listed n = turns n ++ deliveries n ++ departures n ++ arrivals n
+listed n = turns n ++ deliveries n ++ departures n ++ arrivals n ++ routings n

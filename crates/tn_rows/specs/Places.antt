@@ -102,3 +102,27 @@ way_of_kind n kind.Detector = port.Here
 -- the way by which a link leads away from the part that it comes from
 abbrev pub link_way : ShapeNumbers → ℕ → Port
 link_way n l = way_of_kind n (kind_of n l)
+
+-- the side of a router from which a packet comes that came from a part of this kind: from the first tile of its board it
+-- comes from Up; `Here` where no link leads from such a part to a router
+abbrev pub side_between : Kind → Kind → Port
+side_between (kind.Router a) (kind.Tile b) = port.Up
+side_between (kind.Router a) (kind.Router b) = toward a.x a.y b.x b.y port.Here
+side_between (kind.Router a) kind.Host = port.HostPort
+side_between (kind.Router a) (kind.Link from onto) = port.Here
+side_between (kind.Router a) kind.Detector = port.Here
+side_between kind.Host b = port.Here
+side_between (kind.Tile a) b = port.Here
+side_between (kind.Link from onto) b = port.Here
+side_between kind.Detector b = port.Here
+
+abbrev pub side_of_kind : ShapeNumbers → Kind → Port
+side_of_kind n kind.Host = port.Here
+side_of_kind n (kind.Tile tile) = port.Here
+side_of_kind n (kind.Router board) = port.Here
+side_of_kind n (kind.Link from onto) = side_between (kind_of n onto.0) (kind_of n from.0)
+side_of_kind n kind.Detector = port.Here
+
+-- the side from which a link leads to a router
+abbrev pub link_side : ShapeNumbers → ℕ → Port
+link_side n l = side_of_kind n (kind_of n l)

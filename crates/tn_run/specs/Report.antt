@@ -6,7 +6,7 @@ use Rattle.tn_base.specs.declared.event.Trap.{Trap}
 use Rattle.tn_base.specs.declared.event.Trap.TheVariants.{BadInstr, BadFetch, Misaligned, BadAddress, BadCsr, BadDest, SendBusy, RecvEmpty, BadFree, Environment, BadPin, BadLocalKey}
 use Rattle.tn_base.specs.declared.shape.ShapeNumbers.{ShapeNumbers}
 use Rattle.tn_base.specs.Address.{in_tile}
-use Rattle.tn_rows.specs.PartView.{PartView, TileV, LinkV, AbsentV}
+use Rattle.tn_rows.specs.PartView.{PartView, TileV, RouterV, LinkV, AbsentV}
 use Rattle.tn_rows.specs.WorldView.{WorldView}
 use Rattle.tn_text.specs.Hex.{hex_word_text}
 use Rattle.tn_thread.specs.declared.state.ThreadState.{ThreadState}
@@ -49,6 +49,7 @@ exits_from n tile place (t ∷ ts) = exit_text (in_tile n tile place) t.state ++
 
 abbrev pub part_exits : PartView → List ℕ
 part_exits (TileV v) = exits_from v.shape v.tile 0 v.threads
+part_exits (RouterV v) = []
 part_exits (LinkV v) = []
 part_exits AbsentV = []
 

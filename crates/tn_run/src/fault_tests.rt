@@ -325,11 +325,7 @@ fn limits(rt: HostRuntime) -> Result<(), Fail> {
 /// What is not built, in order of lines, before what the machine does not have.
 #[test]
 fn not_built(rt: HostRuntime) -> Result<(), Fail> {
-    let texts: [(&[u8], &[u8]); 4] = [
-        (
-            b"tinsel 1\nshape 2 1 1 1 1 1\ncode all\n80b01073\nend\n",
-            b"refused 2 UnsupportedYet\n",
-        ),
+    let texts: [(&[u8], &[u8]); 3] = [
         (
             b"tinsel 1\nshape 1 1 1 1 1 1\ncode all\n80b01073\nend\nfill 9 0 00\nhost idle\n",
             b"refused 7 UnsupportedYet\n",

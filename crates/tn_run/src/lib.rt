@@ -9,6 +9,8 @@ pub mod answer;
 #[cfg(test)]
 mod bag_tests;
 #[cfg(test)]
+mod board_tests;
+#[cfg(test)]
 mod fault_tests;
 pub mod history;
 pub mod kept;

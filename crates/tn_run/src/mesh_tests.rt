@@ -89,58 +89,63 @@ const EASTWARD: PartId = PartId(4);
 
 const UPWARD: PartId = PartId(5);
 
+/// The thread that sends and the one that waits, and the events of the packet on its way.
+const SENDER: ThreadId = ThreadId(0);
+
+const RECEIVER: ThreadId = ThreadId(64);
+
+const DEPARTS: Event = Event::Depart(FIRST, EASTWARD);
+
+const ARRIVES: Event = Event::Arrive(EASTWARD, SECOND);
+
+/// Events in turn, each with whether it happens and the first event that is enabled after it.
+const STEPS: [(Event, Did, Option<Event>); 17] = [
+    (
+        Event::Turn(SENDER, 8),
+        Did::Moved,
+        Some(Event::Turn(RECEIVER, 1)),
+    ),
+    (
+        Event::Turn(RECEIVER, 5),
+        Did::Nothing,
+        Some(Event::Turn(RECEIVER, 1)),
+    ),
+    (
+        Event::Turn(RECEIVER, 4),
+        Did::Moved,
+        Some(Event::Deliver(SENDER)),
+    ),
+    (
+        Event::Depart(FIRST, EASTWARD),
+        Did::Nothing,
+        Some(Event::Deliver(SENDER)),
+    ),
+    (Event::Deliver(SENDER), Did::Moved, Some(DEPARTS)),
+    // Another link, another part, a link that is no link, and a link that is empty.
+    (Event::Depart(FIRST, UPWARD), Did::Nothing, Some(DEPARTS)),
+    (Event::Depart(SECOND, EASTWARD), Did::Nothing, Some(DEPARTS)),
+    (Event::Depart(FIRST, SECOND), Did::Nothing, Some(DEPARTS)),
+    (
+        Event::Depart(FIRST, PartId(99)),
+        Did::Nothing,
+        Some(DEPARTS),
+    ),
+    (ARRIVES, Did::Nothing, Some(DEPARTS)),
+    (DEPARTS, Did::Moved, Some(ARRIVES)),
+    (DEPARTS, Did::Nothing, Some(ARRIVES)),
+    (Event::Arrive(EASTWARD, FIRST), Did::Nothing, Some(ARRIVES)),
+    (Event::Arrive(UPWARD, SECOND), Did::Nothing, Some(ARRIVES)),
+    (ARRIVES, Did::Moved, Some(Event::Turn(RECEIVER, 1))),
+    (ARRIVES, Did::Nothing, Some(Event::Turn(RECEIVER, 1))),
+    (Event::Turn(RECEIVER, 4), Did::Moved, None),
+];
+
 #[test]
 fn a_packet_event_by_event(rt: HostRuntime) -> Result<(), Fail> {
     let mut world = machine(&rt, rt.alloc(), EAST)?;
-    let sender = ThreadId(0);
-    let receiver = ThreadId(64);
-    makes(&rt, &mut world, Event::Turn(sender, 8), Did::Moved)?;
-    makes(&rt, &mut world, Event::Turn(receiver, 5), Did::Nothing)?;
-    makes(&rt, &mut world, Event::Turn(receiver, 4), Did::Moved)?;
-    assert_eq!(rt; enabled(&world), Some(Event::Deliver(sender)));
-    makes(
-        &rt,
-        &mut world,
-        Event::Depart(FIRST, EASTWARD),
-        Did::Nothing,
-    )?;
-    makes(&rt, &mut world, Event::Deliver(sender), Did::Moved)?;
-    assert_eq!(rt; enabled(&world), Some(Event::Depart(FIRST, EASTWARD)));
-    // Another link, another part, a link that is no link, and a link that is empty.
-    for event in [
-        Event::Depart(FIRST, UPWARD),
-        Event::Depart(SECOND, EASTWARD),
-        Event::Depart(FIRST, SECOND),
-        Event::Depart(FIRST, PartId(99)),
-        Event::Arrive(EASTWARD, SECOND),
-        Event::Route(PartId(3)),
-    ] {
-        makes(&rt, &mut world, event, Did::Nothing)?;
+    for (event, did, first) in STEPS {
+        makes(&rt, &mut world, event, did)?;
+        assert_eq!(rt; enabled(&world), first);
     }
-    makes(&rt, &mut world, Event::Depart(FIRST, EASTWARD), Did::Moved)?;
-    makes(
-        &rt,
-        &mut world,
-        Event::Depart(FIRST, EASTWARD),
-        Did::Nothing,
-    )?;
-    assert_eq!(rt; enabled(&world), Some(Event::Arrive(EASTWARD, SECOND)));
-    makes(
-        &rt,
-        &mut world,
-        Event::Arrive(EASTWARD, FIRST),
-        Did::Nothing,
-    )?;
-    makes(&rt, &mut world, Event::Arrive(UPWARD, SECOND), Did::Nothing)?;
-    makes(&rt, &mut world, Event::Arrive(EASTWARD, SECOND), Did::Moved)?;
-    makes(
-        &rt,
-        &mut world,
-        Event::Arrive(EASTWARD, SECOND),
-        Did::Nothing,
-    )?;
-    assert_eq!(rt; enabled(&world), Some(Event::Turn(receiver, 1)));
-    makes(&rt, &mut world, Event::Turn(receiver, 4), Did::Moved)?;
-    assert_eq!(rt; enabled(&world), None);
     Ok(())
 }

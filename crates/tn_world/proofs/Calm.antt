@@ -2,13 +2,18 @@
 use Rattle.std.specs.declared.option.Option.{Option}
 use Rattle.std.specs.declared.result.Result.{Result}
 use Rattle.std.specs.declared.result.Result.TheVariants.{Ok, Err}
-use Rattle.std.proofs.Common.{◌≡◌, ℕ, ◌≤◌, ◌<◌, length, length-append, is_some, true, false, arith, List, [], ◌∷◌, ◌++◌, None, Some, refl, sym, subst, MatchOption, MatchResult, IsErr, ap, ◌∙◌}
+use Rattle.std.proofs.Common.{◌≡◌, ℕ, ◌≤◌, ◌<◌, length, length-append, is_some, Bool, true, false, arith, List, [], ◌∷◌, ◌++◌, None, Some, refl, sym, subst, MatchOption, MatchResult, IsErr, ap, ◌∙◌}
 use Rattle.tn_base.specs.declared.event.Event.{Event}
 use Rattle.tn_base.specs.declared.event.Outcome.{Outcome}
 use Rattle.tn_rows.specs.Ends.{final_after, final_of, last_of}
 use Rattle.tn_rows.specs.Events.{happened, Rests}
 use Rattle.tn_rows.specs.Runs.{IsLongest, LongRun}
 use Rattle.tn_rows.specs.WorldView.{WorldView}
+use Rattle.tn_base.specs.Does.{Does}
+use Rattle.tn_tile.specs.declared.deliver.Did.{Did}
+use Rattle.tn_tile.specs.declared.deliver.Did.TheVariants as did_as
+use Rattle.tn_tile.specs.Turns.{moved}
+use Rattle.tn_world.proofs.Crossings.{does_some}
 use Rattle.tn_world.proofs.Listed.{first_some, is_here}
 use Rattle.tn_world.specs.Plays.{First, Makes, Played, Reached}
 
@@ -96,6 +101,17 @@ reached start history mid end e calm step = (history ++ e ∷ [], calm_final sta
 pub on_error : {X E : Type 0} (r : Result X E) (P : X → Type 0) (Q : Type 0) → IsErr r → Q → MatchResult r P (λ _. Q)
 on_error (Ok x) P Q err q = cc err
 on_error (Err e) P Q err q = q
+
+-- what a call made of an event that is no turn, where it made one
+does_nothing : {V : Type 0} (h : Bool) (o : Option V) (old new : V) → h ≡ false → Does h o old new → (new ≡ old) × (o ≡ None)
+does_nothing h None old new e d = (d.1, refl)
+does_nothing h (Some v) old new e d = let clash : true ≡ false = sym d.0 ∙ e in cc clash
+
+pub makes : (r : Option Event) (did : Did) (e : Event) (old new : WorldView) → IsLongest e old → MatchOption r (did ≡ did_as.Nothing) (λ m. (did ≡ did_as.Moved) × (m ≡ e)) → Does (moved did) (happened e old) old new →
+    MatchOption r ((new ≡ old) × (happened e old ≡ None)) (λ m. Makes m old new)
+makes None did e old new longest made does = does_nothing (moved did) (happened e old) old new (ap moved made) does
+makes (Some m) did e old new longest made does =
+    subst (λ (m : Event). Makes m old new) (sym made.1) (record { happens = does_some (moved did) (happened e old) old new (ap moved made.0) does; longest = longest })
 
 -- the first event that is enabled is made
 by_made : (r : Option Event) (old new : WorldView) (xs : List Event) (e : Event) → First old xs e → MatchOption r ((new ≡ old) × (happened e old ≡ None)) (λ m. Makes m old new) → MatchOption r ((new ≡ old) × Rests old) (λ m. Makes m old new)

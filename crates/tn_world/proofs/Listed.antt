@@ -13,14 +13,14 @@ use Rattle.tn_base.specs.Parts.{kind_of, part_count, tile_part}
 use Rattle.tn_base.specs.Shape.{thread_count}
 use Rattle.tn_rows.proofs.Meeting.{none_is}
 use Rattle.tn_rows.specs.Events.{after, happened, happened_at, with_part, Rests}
-use Rattle.tn_rows.specs.Listed.{arrivals, arrivals_from, deliveries, departures, departures_from, event_if, listed, nth_thread, part_id, turns}
-use Rattle.tn_rows.specs.PartView.{PartView, TileV, LinkV, AbsentV}
-use Rattle.tn_rows.specs.Places.{at_part, leads_from, leads_to, part_of, two_if}
+use Rattle.tn_rows.specs.Listed.{arrivals, arrivals_from, deliveries, departures, departures_from, event_if, listed, nth_thread, part_id, routings, turns}
+use Rattle.tn_rows.specs.PartView.{PartView, TileV, RouterV, LinkV, AbsentV}
+use Rattle.tn_rows.specs.Places.{at_part, is_router, leads_from, leads_to, one_if, part_of, two_if}
 use Rattle.tn_rows.specs.WorldView.{WorldView}
 use Rattle.tn_stamp.specs.declared.entry.Crossing.TheVariants as crossing
 use Rattle.tn_tile.specs.Rows.{turn_row}
 use Rattle.tn_tile.specs.TileView.{TileView}
-use Rattle.tn_world.proofs.Others.{high_past, joined, low_past, never}
+use Rattle.tn_world.proofs.Others.{high_past, joined, low_past, never, part_past, stands}
 use Rattle.tn_world.proofs.Steps.{row_one}
 use Rattle.tn_world.specs.Plays.{First, NoneOf}
 
@@ -37,6 +37,7 @@ none_placed w p (Some v) e = cc e
 part_one : (t : ThreadId) (m : ℕ) (o : Option PartView) → option_and_then (after (event.Turn t 1) crossing.None) o ≡ None → option_and_then (after (event.Turn t m) crossing.None) o ≡ None
 part_one t m None e = refl
 part_one t m (Some (TileV v)) e = ap (λ o. option_map TileV o) (row_one t.0 m v (none_mapped (turn_row t.0 1 v) e))
+part_one t m (Some (RouterV v)) e = refl
 part_one t m (Some (LinkV v)) e = refl
 part_one t m (Some AbsentV) e = refl
 
@@ -235,37 +236,67 @@ first_arrival w l e h none first = first_flat w (arrivals_from w.shape) 0 (part_
 pub no_arrival : (w : WorldView) (n : ℕ) → part_count w.shape ≤ n → ((k : ℕ) → k < n → NoneOf w (arrivals_from w.shape k)) → NoneOf w (arrivals w.shape)
 no_arrival w n past none = none_flat w (arrivals_from w.shape) 0 (part_count w.shape) (λ k low high. none k (omega arith))
 
--- ---- all four lists
+-- ---- routings, by router
 
--- turns and deliveries, and these and departures
+abbrev pub NoRouting : WorldView → ℕ → Type 0
+NoRouting w p = happened (event.Route (part_id p)) w ≡ None
+
+pub first_routing : (w : WorldView) (p : ℕ) → p < part_count w.shape → ((k : ℕ) → k < p → NoRouting w k) → is_some (happened (event.Route (part_id p)) w) ≡ true → First w (routings w.shape) (event.Route (part_id p))
+first_routing w p h none some =
+    let there : is_router (kind_of w.shape p) ≡ true = stands (event.Route (part_id p)) w (is_router (kind_of w.shape p)) p some in
+    first_flat w (λ p. event_if (is_router (kind_of w.shape p)) (event.Route (part_id p))) 0 (part_count w.shape) p (event.Route (part_id p)) (omega arith) (omega arith)
+    (λ k less. none_if w (is_router (kind_of w.shape k)) (event.Route (part_id k)) (none k less))
+    (first_if w (is_router (kind_of w.shape p)) (event.Route (part_id p)) there (some_is (happened (event.Route (part_id p)) w) some))
+
+pub no_routing : (w : WorldView) (n : ℕ) → part_count w.shape ≤ n → ((k : ℕ) → k < n → NoRouting w k) → NoneOf w (routings w.shape)
+no_routing w n past none =
+    none_flat w (λ p. event_if (is_router (kind_of w.shape p)) (event.Route (part_id p))) 0 (part_count w.shape)
+    (λ k low high. none_if w (is_router (kind_of w.shape k)) (event.Route (part_id k)) (none k (omega arith)))
+
+-- ---- all five lists
+
+-- turns and deliveries, these and departures, and these and arrivals
 abbrev two_lists : ShapeNumbers → List Event
 two_lists n = turns n ++ deliveries n
 
 abbrev three_lists : ShapeNumbers → List Event
 three_lists n = two_lists n ++ departures n
 
+abbrev four_lists : ShapeNumbers → List Event
+four_lists n = three_lists n ++ arrivals n
+
 pub listed_turn : (w : WorldView) (e : Event) → First w (turns w.shape) e → First w (listed w.shape) e
 listed_turn w e f =
-    first_left w (three_lists w.shape) (arrivals w.shape) e
+    first_left w (four_lists w.shape) (routings w.shape) e
+    (first_left w (three_lists w.shape) (arrivals w.shape) e
     (first_left w (two_lists w.shape) (departures w.shape) e
-    (first_left w (turns w.shape) (deliveries w.shape) e f))
+    (first_left w (turns w.shape) (deliveries w.shape) e f)))
 
 pub listed_delivery : (w : WorldView) (e : Event) → NoneOf w (turns w.shape) → First w (deliveries w.shape) e → First w (listed w.shape) e
 listed_delivery w e turned f =
-    first_left w (three_lists w.shape) (arrivals w.shape) e
+    first_left w (four_lists w.shape) (routings w.shape) e
+    (first_left w (three_lists w.shape) (arrivals w.shape) e
     (first_left w (two_lists w.shape) (departures w.shape) e
-    (first_right w (turns w.shape) (deliveries w.shape) e turned f))
+    (first_right w (turns w.shape) (deliveries w.shape) e turned f)))
 
 pub listed_departure : (w : WorldView) (e : Event) → NoneOf w (turns w.shape) → NoneOf w (deliveries w.shape) → First w (departures w.shape) e → First w (listed w.shape) e
 listed_departure w e turned delivered f =
-    first_left w (three_lists w.shape) (arrivals w.shape) e
+    first_left w (four_lists w.shape) (routings w.shape) e
+    (first_left w (three_lists w.shape) (arrivals w.shape) e
     (first_right w (two_lists w.shape) (departures w.shape) e
-    (none_append w (turns w.shape) (deliveries w.shape) turned delivered) f)
+    (none_append w (turns w.shape) (deliveries w.shape) turned delivered) f))
 
 pub listed_arrival : (w : WorldView) (e : Event) → NoneOf w (turns w.shape) → NoneOf w (deliveries w.shape) → NoneOf w (departures w.shape) → First w (arrivals w.shape) e → First w (listed w.shape) e
 listed_arrival w e turned delivered departed f =
-    first_right w (three_lists w.shape) (arrivals w.shape) e
-    (none_append w (two_lists w.shape) (departures w.shape) (none_append w (turns w.shape) (deliveries w.shape) turned delivered) departed) f
+    first_left w (four_lists w.shape) (routings w.shape) e
+    (first_right w (three_lists w.shape) (arrivals w.shape) e
+    (none_append w (two_lists w.shape) (departures w.shape) (none_append w (turns w.shape) (deliveries w.shape) turned delivered) departed) f)
+
+pub listed_routing : (w : WorldView) (e : Event) → NoneOf w (turns w.shape) → NoneOf w (deliveries w.shape) → NoneOf w (departures w.shape) → NoneOf w (arrivals w.shape) → First w (routings w.shape) e → First w (listed w.shape) e
+listed_routing w e turned delivered departed arrived f =
+    first_right w (four_lists w.shape) (routings w.shape) e
+    (none_append w (three_lists w.shape) (arrivals w.shape)
+    (none_append w (two_lists w.shape) (departures w.shape) (none_append w (turns w.shape) (deliveries w.shape) turned delivered) departed) arrived) f
 
 -- each thread of the machine stands in the list
 abbrev pub Each : ShapeNumbers → Type 0
@@ -324,24 +355,38 @@ arrival_rests w l p count none = elim (within (part_count w.shape) p.0 l.0) [
   ]
 ]
 
--- where none of them is enabled, no event is
-pub rests : (w : WorldView) → length w.parts ≡ part_count w.shape → Each w.shape → NoneOf w (turns w.shape) → NoneOf w (deliveries w.shape) → NoneOf w (departures w.shape) → NoneOf w (arrivals w.shape) → Rests w
-rests w count each turns deliveries departures arrivals (event.Turn t n) = turn_rests w t n (has_thread w.shape t.0) refl each turns
-rests w count each turns deliveries departures arrivals (event.Deliver t) = delivery_rests w t (has_thread w.shape t.0) refl each deliveries
-rests w count each turns deliveries departures arrivals (event.Depart p l) = departure_rests w p l count departures
-rests w count each turns deliveries departures arrivals (event.Arrive l p) = arrival_rests w l p count arrivals
-rests w count each turns deliveries departures arrivals (event.Route p) = never (event.Route p) w refl
-rests w count each turns deliveries departures arrivals event.HostPut = never event.HostPut w refl
-rests w count each turns deliveries departures arrivals event.HostTake = never event.HostTake w refl
-rests w count each turns deliveries departures arrivals (event.Report p) = never (event.Report p) w refl
-rests w count each turns deliveries departures arrivals event.Begin = never event.Begin w refl
-rests w count each turns deliveries departures arrivals (event.Confirm p) = never (event.Confirm p) w refl
-rests w count each turns deliveries departures arrivals event.Announce = never event.Announce w refl
-rests w count each turns deliveries departures arrivals (event.Release p) = never (event.Release p) w refl
-rests w count each turns deliveries departures arrivals (event.Go p) = never (event.Go p) w refl
+one_or : (w : WorldView) (e : Event) (there : Bool) (p : ℕ) → (there ≡ true → happened_at e w (one_if there p) ≡ None) → happened_at e w (one_if there p) ≡ None
+one_or w e true p h = h refl
+one_or w e false p h = refl
 
--- what is left after the first three lists
-pub last_list : (w : WorldView) (r : Option Event) → length w.parts ≡ part_count w.shape → Each w.shape → NoneOf w (turns w.shape) → NoneOf w (deliveries w.shape) → NoneOf w (departures w.shape) →
-    MatchOption r (NoneOf w (arrivals w.shape)) (First w (arrivals w.shape)) → MatchOption r (Rests w) (First w (listed w.shape))
-last_list w None count each turned delivered departed h = rests w count each turned delivered departed h
-last_list w (Some e) count each turned delivered departed h = listed_arrival w e turned delivered departed h
+routing_rests : (w : WorldView) (p : PartId) → length w.parts ≡ part_count w.shape → NoneOf w (routings w.shape) → happened (event.Route p) w ≡ None
+routing_rests w p count none = elim (within (part_count w.shape) p.0 p.0) [
+  | inl both ↦ one_or w (event.Route p) (is_router (kind_of w.shape p.0)) p.0 (if_none w (is_router (kind_of w.shape p.0)) (event.Route p)
+      (flat_none w (λ k. event_if (is_router (kind_of w.shape k)) (event.Route (part_id k))) 0 (part_count w.shape) p.0 none (omega arith) (omega (arith, both.0))))
+  | inr past ↦ elim past [
+    | inl low ↦ part_past (event.Route p) w (is_router (kind_of w.shape p.0)) p.0 (omega (arith, low, count))
+    | inr high ↦ part_past (event.Route p) w (is_router (kind_of w.shape p.0)) p.0 (omega (arith, high, count))
+  ]
+]
+
+-- where none of them is enabled, no event is
+pub rests : (w : WorldView) → length w.parts ≡ part_count w.shape → Each w.shape → NoneOf w (turns w.shape) → NoneOf w (deliveries w.shape) → NoneOf w (departures w.shape) → NoneOf w (arrivals w.shape) → NoneOf w (routings w.shape) → Rests w
+rests w count each turns deliveries departures arrivals routings (event.Turn t n) = turn_rests w t n (has_thread w.shape t.0) refl each turns
+rests w count each turns deliveries departures arrivals routings (event.Deliver t) = delivery_rests w t (has_thread w.shape t.0) refl each deliveries
+rests w count each turns deliveries departures arrivals routings (event.Depart p l) = departure_rests w p l count departures
+rests w count each turns deliveries departures arrivals routings (event.Arrive l p) = arrival_rests w l p count arrivals
+rests w count each turns deliveries departures arrivals routings (event.Route p) = routing_rests w p count routings
+rests w count each turns deliveries departures arrivals routings event.HostPut = never event.HostPut w refl
+rests w count each turns deliveries departures arrivals routings event.HostTake = never event.HostTake w refl
+rests w count each turns deliveries departures arrivals routings (event.Report p) = never (event.Report p) w refl
+rests w count each turns deliveries departures arrivals routings event.Begin = never event.Begin w refl
+rests w count each turns deliveries departures arrivals routings (event.Confirm p) = never (event.Confirm p) w refl
+rests w count each turns deliveries departures arrivals routings event.Announce = never event.Announce w refl
+rests w count each turns deliveries departures arrivals routings (event.Release p) = never (event.Release p) w refl
+rests w count each turns deliveries departures arrivals routings (event.Go p) = never (event.Go p) w refl
+
+-- what is left after the first four lists
+pub last_list : (w : WorldView) (r : Option Event) → length w.parts ≡ part_count w.shape → Each w.shape → NoneOf w (turns w.shape) → NoneOf w (deliveries w.shape) → NoneOf w (departures w.shape) → NoneOf w (arrivals w.shape) →
+    MatchOption r (NoneOf w (routings w.shape)) (First w (routings w.shape)) → MatchOption r (Rests w) (First w (listed w.shape))
+last_list w None count each turned delivered departed arrived h = rests w count each turned delivered departed arrived h
+last_list w (Some e) count each turned delivered departed arrived h = listed_routing w e turned delivered departed arrived h

@@ -12,8 +12,11 @@ use Rattle.tn_base.specs.declared.port.Port.TheVariants as port
 use Rattle.tn_base.specs.Parts.{kind_of, part_count, visited}
 use Rattle.tn_rows.proofs.Meeting.{no_crossing, none_is}
 use Rattle.tn_rows.specs.Events.{after, carried, crossing_of, given_to, happened, happened_at, meets_at, with_both, with_part}
-use Rattle.tn_rows.specs.PartView.{PartView, TileV, LinkV, AbsentV}
-use Rattle.tn_rows.specs.Places.{detector_part, is_router, leads_from, leads_to, link_way, one_if, two_if}
+use Rattle.tn_router.specs.Places.{buffer_at as out_at}
+use Rattle.tn_router.specs.Rows.{none_waits as none_waits_out}
+use Rattle.tn_router.specs.declared.buffers.Buffers.{Buffers as Outs}
+use Rattle.tn_rows.specs.PartView.{PartView, TileV, RouterV, LinkV, AbsentV}
+use Rattle.tn_rows.specs.Places.{detector_part, leads_from, leads_to, link_way, one_if, two_if}
 use Rattle.tn_rows.specs.WorldView.{WorldView}
 use Rattle.tn_stamp.specs.declared.entry.Crossing.TheVariants as crossing
 use Rattle.tn_tile.specs.Rows.{buffer_at}
@@ -40,18 +43,15 @@ pub no_two : (e : Event) (w : WorldView) (there : Bool) (p q : ℕ) → ((x y : 
 no_two e w true p q none = met_none e w (slice_get w.parts p) (slice_get w.parts q) p q none
 no_two e w false p q none = refl
 
-route_row : (p : PartId) (x : PartView) → after (event.Route p) crossing.None x ≡ None
-route_row p (TileV v) = refl
-route_row p (LinkV v) = refl
-route_row p AbsentV = refl
-
 begin_row : (x : PartView) → after event.Begin crossing.None x ≡ None
 begin_row (TileV v) = refl
+begin_row (RouterV v) = refl
 begin_row (LinkV v) = refl
 begin_row AbsentV = refl
 
 announce_row : (x : PartView) → after event.Announce crossing.None x ≡ None
 announce_row (TileV v) = refl
+announce_row (RouterV v) = refl
 announce_row (LinkV v) = refl
 announce_row AbsentV = refl
 
@@ -61,6 +61,7 @@ has_rows (event.Turn t n) = true
 has_rows (event.Deliver t) = true
 has_rows (event.Depart p l) = true
 has_rows (event.Arrive l p) = true
+has_rows (event.Route p) = true
 has_rows _ = false
 
 pub never : (e : Event) (w : WorldView) → has_rows e ≡ false → happened e w ≡ None
@@ -68,7 +69,7 @@ never (event.Turn t n) w h = cc h
 never (event.Deliver t) w h = cc h
 never (event.Depart p l) w h = cc h
 never (event.Arrive l p) w h = cc h
-never (event.Route p) w h = no_one (event.Route p) w (is_router (kind_of w.shape p.0)) p.0 (route_row p)
+never (event.Route p) w h = cc h
 never event.HostPut w h = no_two event.HostPut w true 0 (part_count w.shape - 2) (λ x y a b. refl)
 never event.HostTake w h = no_two event.HostTake w true 0 (part_count w.shape - 3) (λ x y a b. refl)
 never (event.Report p) w h = no_two (event.Report p) w (ltb p.0 (visited w.shape)) p.0 (detector_part w.shape) (λ x y a b. refl)
@@ -91,6 +92,13 @@ past_high : (e : Event) (w : WorldView) (p q : ℕ) → slice_get w.parts q ≡ 
 past_high e w p q b =
     ap (λ o. option_map (with_both w p q) (meets_at e (slice_get w.parts p) o)) b
     ∙ ap (λ o. option_map (with_both w p q) o) (high_none e (slice_get w.parts p))
+
+one_past : (e : Event) (w : WorldView) (p : ℕ) → slice_get w.parts p ≡ None → option_map (with_part w p) (option_and_then (after e crossing.None) (slice_get w.parts p)) ≡ None
+one_past e w p a = ap (λ (o : Option PartView). option_map (with_part w p) (option_and_then (after e crossing.None) o)) a
+
+pub part_past : (e : Event) (w : WorldView) (there : Bool) (p : ℕ) → length w.parts ≤ p → happened_at e w (one_if there p) ≡ None
+part_past e w true p h = one_past e w p (slice_get_past w.parts p h)
+part_past e w false p h = refl
 
 pub low_past : (e : Event) (w : WorldView) (there : Bool) (p q : ℕ) → length w.parts ≤ p → happened_at e w (two_if there p q) ≡ None
 low_past e w true p q h = past_low e w p q (slice_get_past w.parts p h)
@@ -138,6 +146,41 @@ empty_at port.Down b e = refl
 empty_at port.HostPort b e = refl
 empty_at port.Here b e = refl
 
+-- the same of a router
+record Bare (b : Outs) : Type 0 where
+  pub east : b.east ≡ None
+  pub west : b.west ≡ None
+  pub south : b.south ≡ None
+  pub north : b.north ≡ None
+  pub down : b.down ≡ None
+  pub host : b.host ≡ None
+
+bare : (b : Outs) → none_waits_out b ≡ true → Bare b
+bare b e =
+    let last = and_parts (is_none b.east && is_none b.west && is_none b.south && is_none b.north && is_none b.down) (is_none b.host) e in
+    let fifth = and_parts (is_none b.east && is_none b.west && is_none b.south && is_none b.north) (is_none b.down) last.0 in
+    let fourth = and_parts (is_none b.east && is_none b.west && is_none b.south) (is_none b.north) fifth.0 in
+    let third = and_parts (is_none b.east && is_none b.west) (is_none b.south) fourth.0 in
+    let second = and_parts (is_none b.east) (is_none b.west) third.0 in
+    record {
+      east = none_here b.east second.0;
+      west = none_here b.west second.1;
+      south = none_here b.south third.1;
+      north = none_here b.north fourth.1;
+      down = none_here b.down fifth.1;
+      host = none_here b.host last.1;
+    }
+
+bare_at : (way : Port) (b : Outs) → Bare b → out_at way b ≡ None
+bare_at port.East b e = e.east
+bare_at port.West b e = e.west
+bare_at port.South b e = e.south
+bare_at port.North b e = e.north
+bare_at port.Up b e = refl
+bare_at port.Down b e = e.down
+bare_at port.HostPort b e = e.host
+bare_at port.Here b e = refl
+
 unless_held : (held : Bool) (o : Option Packet) → o ≡ None → cond held None o ≡ None
 unless_held true o e = refl
 unless_held false o e = e
@@ -148,6 +191,7 @@ not_false false e = cc e
 
 gives_none : (l : ℕ) (x : PartView) → offers x ≡ false → given_to l x ≡ None
 gives_none l (TileV v) e = unless_held v.held (buffer_at (link_way v.shape l) v.transit) (empty_at (link_way v.shape l) v.transit (empty v.transit (not_false (none_waits v.transit) e)))
+gives_none l (RouterV v) e = unless_held v.held (out_at (link_way v.shape l) v.out) (bare_at (link_way v.shape l) v.out (bare v.out (not_false (none_waits_out v.out) e)))
 gives_none l (LinkV v) e = refl
 gives_none l AbsentV e = refl
 
@@ -168,3 +212,8 @@ none_arrives w l p x here e = no_two (event.Arrive l p) w (leads_to p.0 (kind_of
 pub joined : (e : Event) (w : WorldView) (there : Bool) (p q : ℕ) → is_some (happened_at e w (two_if there p q)) ≡ true → there ≡ true
 joined e w true p q h = refl
 joined e w false p q h = cc h
+
+-- an event that is enabled is on a part of its kind
+pub stands : (e : Event) (w : WorldView) (there : Bool) (p : ℕ) → is_some (happened_at e w (one_if there p)) ≡ true → there ≡ true
+stands e w true p h = refl
+stands e w false p h = cc h

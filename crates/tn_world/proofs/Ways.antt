@@ -1,4 +1,4 @@
--- Links of a machine: where they stand, and which way they lead.
+-- Links of a machine: where they stand, which way they lead, and from which side.
 use Rattle.std.proofs.Common.{◌≡◌, ◌∙◌, ◌==◌, ℕ, ◌<◌, ◌≤◌, Bool, true, false, cond, None, Some, refl, ap, subst, sym, get_or, length, arith}
 use Rattle.std.specs.declared.option.Option.{Option}
 use Rattle.std.proofs.lemmas.Bool.{eqb-true}
@@ -9,10 +9,10 @@ use Rattle.tn_base.specs.declared.port.Port.{Port}
 use Rattle.tn_base.specs.declared.shape.ShapeNumbers.{ShapeNumbers}
 use Rattle.tn_base.specs.Parts.{JoinsVisited, kind_of, part_count, visited}
 use Rattle.tn_rows.specs.Events.{FitsKind, IsWorld}
-use Rattle.tn_rows.specs.PartView.{PartView, TileV, LinkV, AbsentV}
-use Rattle.tn_rows.specs.Places.{leads_from, leads_to, link_way}
+use Rattle.tn_rows.specs.PartView.{PartView, TileV, RouterV, LinkV, AbsentV}
+use Rattle.tn_rows.specs.Places.{leads_from, leads_to, link_side, link_way}
 use Rattle.tn_rows.specs.WorldView.{WorldView}
-use Rattle.tn_world.specs.Joint.{IsLink, IsWay, NoLink}
+use Rattle.tn_world.specs.Joint.{IsLink, IsSide, IsWay, NoLink}
 
 -- a part is a link between these
 pub record Joins (k : Kind) (from onto : ℕ) : Type 0 where
@@ -45,12 +45,14 @@ Behind n = (l : ℕ) (from onto : PartId) → kind_of n l ≡ kind.Link from ont
 
 fits_link : (n : ShapeNumbers) (k : Kind) (from onto : PartId) (part : PartView) → k ≡ kind.Link from onto → FitsKind n k part → IsLink part
 fits_link n k from onto (TileV v) e f = subst (λ k. FitsKind n k (TileV v)) e f
+fits_link n k from onto (RouterV v) e f = subst (λ k. FitsKind n k (RouterV v)) e f
 fits_link n k from onto (LinkV v) e f = tt
 fits_link n k from onto AbsentV e f = subst (λ k. FitsKind n k AbsentV) e f
 
 -- a part that is no link is none
 fits_other : (n : ShapeNumbers) (k : Kind) (part : PartView) → ((from onto : PartId) → k ≡ kind.Link from onto → ⊥) → FitsKind n k part → NoLink part
 fits_other n k (TileV v) not f = tt
+fits_other n k (RouterV v) not f = tt
 fits_other n kind.Host (LinkV v) not f = f
 fits_other n (kind.Tile tile) (LinkV v) not f = f
 fits_other n (kind.Router board) (LinkV v) not f = f
@@ -64,8 +66,23 @@ fits_way n (kind.Tile tile) (TileV v) l way e f = e ∙ ap (λ m. link_way m l) 
 fits_way n (kind.Router board) (TileV v) l way e f = absurd f
 fits_way n (kind.Link from onto) (TileV v) l way e f = absurd f
 fits_way n kind.Detector (TileV v) l way e f = absurd f
+fits_way n kind.Host (RouterV v) l way e f = absurd f
+fits_way n (kind.Tile tile) (RouterV v) l way e f = absurd f
+fits_way n (kind.Router board) (RouterV v) l way e f = e ∙ ap (λ m. link_way m l) (sym f.0)
+fits_way n (kind.Link from onto) (RouterV v) l way e f = absurd f
+fits_way n kind.Detector (RouterV v) l way e f = absurd f
 fits_way n k (LinkV v) l way e f = tt
 fits_way n k AbsentV l way e f = tt
+
+fits_side : (n : ShapeNumbers) (k : Kind) (part : PartView) (l : ℕ) (side : Port) → side ≡ link_side n l → FitsKind n k part → IsSide part l side
+fits_side n k (TileV v) l side e f = tt
+fits_side n kind.Host (RouterV v) l side e f = absurd f
+fits_side n (kind.Tile tile) (RouterV v) l side e f = absurd f
+fits_side n (kind.Router board) (RouterV v) l side e f = e ∙ ap (λ m. link_side m l) (sym f.0)
+fits_side n (kind.Link from onto) (RouterV v) l side e f = absurd f
+fits_side n kind.Detector (RouterV v) l side e f = absurd f
+fits_side n k (LinkV v) l side e f = tt
+fits_side n k AbsentV l side e f = tt
 
 -- a part and a link behind it
 pub record Pair (w : WorldView) (p l : ℕ) : Type 0 where
@@ -75,6 +92,7 @@ pub record Pair (w : WorldView) (p l : ℕ) : Type 0 where
   pub link : IsLink (get_or w.parts l AbsentV)
   pub part : NoLink (get_or w.parts p AbsentV)
   pub way : (way : Port) → way ≡ link_way w.shape l → IsWay (get_or w.parts p AbsentV) l way
+  pub side : (side : Port) → side ≡ link_side w.shape l → IsSide (get_or w.parts p AbsentV) l side
 
 pair_of : (w : WorldView) (p l : ℕ) (from onto : PartId) → kind_of w.shape l ≡ kind.Link from onto → p < visited w.shape → Behind w.shape → IsWorld w → Pair w p l
 pair_of w p l from onto e low behind i =
@@ -90,6 +108,7 @@ pair_of w p l from onto e low behind i =
       link = fits_link w.shape (kind_of w.shape l) from onto (get_or w.parts l AbsentV) e (i.each l there);
       part = fits_other w.shape (kind_of w.shape p) (get_or w.parts p AbsentV) (λ a b k. let j : JoinsVisited w.shape p a.0 b.0 = behind p a b k in let at : visited w.shape ≤ p = j.behind in omega (arith, low, at)) (i.each p here);
       way = λ way is. fits_way w.shape (kind_of w.shape p) (get_or w.parts p AbsentV) l way is (i.each p here);
+      side = λ side is. fits_side w.shape (kind_of w.shape p) (get_or w.parts p AbsentV) l side is (i.each p here);
     }
 
 pub from_pair : (w : WorldView) (p l : ℕ) → leads_from p (kind_of w.shape l) ≡ true → Behind w.shape → IsWorld w → Pair w p l
@@ -104,7 +123,7 @@ onto_pair w p l e behind i =
     let low : joins.high.0 < visited w.shape = (behind l joins.low joins.high joins.is).onto_visited in
     pair_of w p l joins.low joins.high joins.is (subst (λ x. x < visited w.shape) joins.onto_is low) behind i
 
--- the way of a link that leads away from the part, where it does
+-- the way of a link that leads away from the part, or its side, where it does
 pub way_given : (there : Bool) (o : Option Port) (is way : Port) → o ≡ cond there (Some is) None → o ≡ Some way → (there ≡ true) × (way ≡ is)
 way_given true o is way e f = let g : Some way ≡ Some is = sym f ∙ e in (refl, cc g)
 way_given false o is way e f = let g : Some way ≡ None = sym f ∙ e in cc g
@@ -122,12 +141,15 @@ leads w n p l way same e behind i =
     let pair : Pair w p l = from_pair w p l given.0 behind i in
     record { there = given.0; pair = pair; way_is = pair.way way given.1 }
 
--- a link that leads to a part
-pub record LeadsTo (w : WorldView) (p l : ℕ) : Type 0 where
+-- a link that leads to a part from this side
+pub record LeadsTo (w : WorldView) (p l : ℕ) (side : Port) : Type 0 where
   pub there : leads_to p (kind_of w.shape l) ≡ true
   pub pair : Pair w p l
+  pub side_is : IsSide (get_or w.parts p AbsentV) l side
 
-pub leads_onto : (w : WorldView) (n : ShapeNumbers) (p l : ℕ) (b : Bool) → w.shape ≡ n → b ≡ leads_to p (kind_of n l) → b ≡ true → Behind w.shape → IsWorld w → LeadsTo w p l
-leads_onto w n p l b same e is behind i =
-    let there : leads_to p (kind_of w.shape l) ≡ true = subst (λ (n : ShapeNumbers). leads_to p (kind_of n l) ≡ true) (sym same) (sym e ∙ is) in
-    record { there = there; pair = onto_pair w p l there behind i }
+pub leads_onto : (w : WorldView) (n : ShapeNumbers) (p l : ℕ) (side : Port) → w.shape ≡ n → Some side ≡ cond (leads_to p (kind_of n l)) (Some (link_side n l)) None → Behind w.shape → IsWorld w → LeadsTo w p l side
+leads_onto w n p l side same e behind i =
+    let here = subst (λ (n : ShapeNumbers). Some side ≡ cond (leads_to p (kind_of n l)) (Some (link_side n l)) None) (sym same) e in
+    let given = way_given (leads_to p (kind_of w.shape l)) (Some side) (link_side w.shape l) side here refl in
+    let pair : Pair w p l = onto_pair w p l given.0 behind i in
+    record { there = given.0; pair = pair; side_is = pair.side side given.1 }

@@ -2,8 +2,8 @@
 use Rattle.std.specs.Prelude.{ℕ, ◌≡◌, Bool, true, false, List, Option, MatchOption, slice_set}
 use Rattle.tn_base.specs.declared.port.Port.{Port}
 use Rattle.tn_rows.specs.Events.{Met}
-use Rattle.tn_rows.specs.PartView.{PartView, TileV, LinkV, AbsentV}
-use Rattle.tn_rows.specs.Places.{link_way}
+use Rattle.tn_rows.specs.PartView.{PartView, TileV, RouterV, LinkV, AbsentV}
+use Rattle.tn_rows.specs.Places.{link_side, link_way}
 
 -- the row of both parts gives what they are now, and the call says so; or it gives nothing, nothing happened, and the call
 -- says so
@@ -11,20 +11,30 @@ abbrev pub DoesBoth : Bool → Option Met → PartView → PartView → PartView
 DoesBoth happened row low high low' high' =
     MatchOption row ((happened ≡ false) × (low' ≡ low) × (high' ≡ high)) (λ m. (happened ≡ true) × (low' ≡ m.low) × (high' ≡ m.high))
 
--- link l leads away from a tile by this way
+-- link l leads away from a tile or a router by this way
 abbrev pub IsWay : PartView → ℕ → Port → Type 0
 IsWay (TileV v) l way = way ≡ link_way v.shape l
+IsWay (RouterV v) l way = way ≡ link_way v.shape l
 IsWay (LinkV v) l way = Unit {0}
 IsWay AbsentV l way = Unit {0}
+
+-- link l leads to a router from this side; all sides of a tile are alike
+abbrev pub IsSide : PartView → ℕ → Port → Type 0
+IsSide (TileV v) l side = Unit {0}
+IsSide (RouterV v) l side = side ≡ link_side v.shape l
+IsSide (LinkV v) l side = Unit {0}
+IsSide AbsentV l side = Unit {0}
 
 -- a part is a link, and a part is none
 abbrev pub IsLink : PartView → Type 0
 IsLink (TileV v) = ⊥
+IsLink (RouterV v) = ⊥
 IsLink (LinkV v) = Unit {0}
 IsLink AbsentV = ⊥
 
 abbrev pub NoLink : PartView → Type 0
 NoLink (TileV v) = Unit {0}
+NoLink (RouterV v) = Unit {0}
 NoLink (LinkV v) = ⊥
 NoLink AbsentV = Unit {0}
 

@@ -5,9 +5,10 @@ use Rattle.tn_base.specs.declared.event.Event.TheVariants as event
 use Rattle.tn_base.specs.declared.ids.ThreadId.{ThreadId}
 use Rattle.tn_rows.specs.Ends.{final_after, last_of}
 use Rattle.tn_rows.specs.Events.{after, happened, Rests}
-use Rattle.tn_rows.specs.PartView.{PartView, TileV, LinkV, AbsentV}
+use Rattle.tn_rows.specs.PartView.{PartView, TileV, RouterV, LinkV, AbsentV}
 use Rattle.tn_rows.specs.Runs.{IsLongest, LongRun}
 use Rattle.tn_rows.specs.WorldView.{WorldView}
+use Rattle.tn_router.specs.Rows.{none_waits as none_waits_out}
 use Rattle.tn_stamp.specs.declared.entry.Crossing.TheVariants as crossing
 use Rattle.tn_tile.specs.declared.step.Turned.{Turned}
 use Rattle.tn_tile.specs.declared.step.Turned.TheVariants as turned
@@ -26,6 +27,7 @@ Turns turned.Nothing t old new = (new ≡ old) × ((m : ℕ) → happened (event
 -- a packet waits on a part for a way out
 abbrev pub offers : PartView → Bool
 offers (TileV v) = not (none_waits v.transit)
+offers (RouterV v) = not (none_waits_out v.out)
 offers (LinkV v) = false
 offers AbsentV = false
 

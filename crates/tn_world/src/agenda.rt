@@ -36,7 +36,7 @@ pub(crate) struct Agenda {
 }
 
 impl Agenda {
-    /// All events of a machine: of each part arrivals first, then deliveries, turns and departures.
+    /// All events of a machine: of each part arrivals first, then deliveries or routings, turns and departures.
     pub(crate) fn of(alloc: Global, shape: &Shape) -> Result<Agenda, AllocError> {
         let ends = ends_of(alloc, shape)?;
         let first_link = shape.visited();
@@ -46,6 +46,7 @@ impl Agenda {
         }
         push_arrivals(&mut stops, &ends, first_link)?;
         push_deliveries(&mut stops, shape)?;
+        push_routings(&mut stops, shape)?;
         push_turns(&mut stops, shape)?;
         push_departures(&mut stops, &ends, first_link)?;
         let mut agenda = Agenda {
@@ -204,6 +205,15 @@ fn push_deliveries(stops: &mut Vec<Vec<Event>>, shape: &Shape) -> Result<(), All
     for i in 0..shape.thread_count() {
         let t = shape.thread_at(i);
         push_thread_event(stops, shape, t, Event::Deliver(t))?;
+    }
+    Ok(())
+}
+
+fn push_routings(stops: &mut Vec<Vec<Event>>, shape: &Shape) -> Result<(), AllocError> {
+    for p in 0..shape.part_count() {
+        if let Kind::Router(_) = shape.kind(PartId(p)) {
+            push_event(stops, PartId(p), Event::Route(PartId(p)))?;
+        }
     }
     Ok(())
 }

@@ -5,9 +5,9 @@ ghost use Rattle.std.specs.List.{list_all};
 ghost use Rattle.tn_base.specs.declared.event.Event.TheVariants as event;
 ghost use Rattle.tn_base.specs.Does.{Does};
 ghost use Rattle.tn_base.specs.Parts.{part_count};
-ghost use Rattle.tn_rows.specs.Ends.{ended_on, final_of, is_over, rest_outcome};
+ghost use Rattle.tn_rows.specs.Ends.{bad_key_on, ended_on, final_of, is_over, rest_outcome};
 ghost use Rattle.tn_rows.specs.Events.{Rests, happened};
-ghost use Rattle.tn_rows.specs.Listed.{arrivals, arrivals_from, deliveries, departures, departures_from, listed, turns};
+ghost use Rattle.tn_rows.specs.Listed.{arrivals, arrivals_from, deliveries, departures, departures_from, listed, routings, turns};
 ghost use Rattle.tn_rows.specs.Places.{part_of};
 ghost use Rattle.tn_tile.specs.Turns.{moved};
 ghost use Rattle.tn_world.specs.Plays.{First, NoneOf, Turns};
@@ -31,12 +31,13 @@ pub fn step<L: Link>(world: &mut World<L>, e: &Event) -> Result<Did, AllocError>
         Event::Deliver(t) => Ok(world.deliver(t)),
         Event::Depart(p, l) => Ok(world.depart(p, l)),
         Event::Arrive(l, p) => Ok(world.arrive(l, p)),
+        Event::Route(p) => Ok(world.route(p)),
         _ => Ok(Did::Nothing),
     }
 }
 
 /// The first event in their order that is enabled: turns by thread, then deliveries by thread, departures by part
-/// and link, arrivals by link.
+/// and link, arrivals by link, routings by router.
 pub fn enabled<L: Link>(world: &World<L>) -> Option<Event>
     ensures { MatchOption result (Rests world.now) (First world.now (listed world.now.shape)) }
 {
@@ -50,7 +51,10 @@ pub fn enabled<L: Link>(world: &World<L>) -> Option<Event>
     if let Some(e) = first_departure(world) {
         return Some(e);
     }
-    first_arrival(world)
+    if let Some(e) = first_arrival(world) {
+        return Some(e);
+    }
+    first_routing(world)
 }
 
 /// The first thread that can make a step.
@@ -103,13 +107,26 @@ fn first_arrival<L: Link>(world: &World<L>) -> Option<Event>
     None
 }
 
+/// The first router that can do something.
+fn first_routing<L: Link>(world: &World<L>) -> Option<Event>
+    ensures { MatchOption result (NoneOf world.now (routings world.now.shape)) (First world.now (routings world.now.shape)) }
+{
+    for p in 0..world.shape.part_count() {
+        if world.can_route(PartId(p)) {
+            return Some(Event::Route(PartId(p)));
+        }
+    }
+    None
+}
+
 /// How a run ends with this event, after which the machine is this one, where the event is final: a thread
-/// trapped, or has used its fuel.
+/// trapped, or has used its fuel, or a router found a bad key.
 pub fn final_of<L: Link>(world: &World<L>, e: &Event) -> Option<Outcome>
     ensures { result ≡ final_of e.now world.now }
 {
     match *e {
         Event::Turn(t, _) => world.ended_by(t),
+        Event::Route(p) => world.bad_key_at(p),
         _ => None,
     }
 }
@@ -187,6 +204,17 @@ impl<L: Link> World<L> {
         self.parts[at].deliver(t)
     }
 
+    /// A router does one record of a packet, or sends on the whole of one.
+    pub(crate) fn route(&mut self, p: PartId) -> Did
+        ensures { Does (moved result) (happened (event.Route p) self.old) self.old self.new }
+    {
+        let at = p.0 as usize;
+        if at >= self.parts.len() {
+            return Did::Nothing;
+        }
+        self.parts[at].route(p)
+    }
+
     /// The part that a thread is on.
     fn part_with(&self, t: ThreadId) -> Option<&Part<L>>
         ensures { option_copied result ≡ option_and_then (slice_get self.now.parts) (part_of self.now.shape t) }
@@ -213,6 +241,14 @@ impl<L: Link> World<L> {
             Some(part) => part.can_deliver(t),
             None => false,
         }
+    }
+
+    /// Whether a router can do something.
+    pub(crate) fn can_route(&self, p: PartId) -> bool
+        ensures { result ≡ is_some (happened (event.Route p) self.now) }
+    {
+        let at = p.0 as usize;
+        at < self.parts.len() && self.parts[at].can_route(p)
     }
 
     /// The first link that can take a packet from a part.
@@ -252,5 +288,12 @@ impl<L: Link> World<L> {
         ensures { result ≡ option_and_then (ended_on t) (option_and_then (slice_get self.now.parts) (part_of self.now.shape t)) }
     {
         self.part_with(t)?.ended_by(t)
+    }
+
+    /// How a run ends with a routing of this router, where that routing is final.
+    fn bad_key_at(&self, p: PartId) -> Option<Outcome>
+        ensures { result ≡ option_and_then bad_key_on (slice_get self.now.parts p.0) }
+    {
+        self.parts.get(p.0 as usize)?.bad_key()
     }
 }

@@ -1,4 +1,4 @@
-//! Events on a tile and a link: departures and arrivals.
+//! Events on a tile or a router and a link: departures and arrivals.
 
 ghost use Rattle.std.specs.Prelude.{◌≡◌, ◌<◌, Some, None, is_some, length, option_map, slice_get, slice_index_or, if◌then◌else◌};
 ghost use Rattle.tn_base.specs.declared.event.Event.TheVariants as event;
@@ -6,11 +6,12 @@ ghost use Rattle.tn_base.specs.declared.part.Kind.TheVariants as kind;
 ghost use Rattle.tn_base.specs.Does.{Does};
 ghost use Rattle.tn_base.specs.Parts.{kind_of};
 ghost use Rattle.tn_rows.specs.Events.{happened, meets, meets_at};
-ghost use Rattle.tn_rows.specs.PartView.{AbsentV, LinkV, TileV};
-ghost use Rattle.tn_rows.specs.Places.{leads_from, leads_to, link_way, way_between};
+ghost use Rattle.tn_rows.specs.PartView.{AbsentV, LinkV, RouterV, TileV};
+ghost use Rattle.tn_rows.specs.Places.{leads_from, leads_to, link_side, link_way, side_between, way_between};
+ghost use Rattle.tn_router.specs.Rows.{accept_row as router_accepts, depart_row as router_departs};
 ghost use Rattle.tn_tile.specs.Rows.{accept_row, depart_row};
 ghost use Rattle.tn_tile.specs.Turns.{moved};
-ghost use Rattle.tn_world.specs.Joint.{DoesBoth, IsLink, IsWay, NoLink, set_both};
+ghost use Rattle.tn_world.specs.Joint.{DoesBoth, IsLink, IsSide, IsWay, NoLink, set_both};
 
 use crate::part::{Contents, Part};
 use crate::world::World;
@@ -20,6 +21,7 @@ use tn_base::message::{Dest, Packet};
 use tn_base::part::Kind;
 use tn_base::port::Port;
 use tn_link::link::Link;
+use tn_router::router::Router;
 use tn_tile::deliver::Did;
 use tn_tile::tile::Tile;
 
@@ -31,6 +33,18 @@ fn way_between(a: Kind, b: Kind) -> Port
         (Kind::Tile(a), Kind::Tile(b)) => a.port(&Dest::Thread(ThreadId(b.0))),
         (Kind::Tile(_), Kind::Router(_)) => Port::Up,
         (Kind::Router(_), Kind::Tile(_)) => Port::Down,
+        (Kind::Router(a), Kind::Router(b)) => a.way_to(b),
+        (Kind::Router(_), Kind::Host) => Port::HostPort,
+        _ => Port::Here,
+    }
+}
+
+/// The side of a router from which a packet comes that came from this neighbour.
+fn side_between(a: Kind, b: Kind) -> Port
+    ensures { result ≡ side_between a b }
+{
+    match (a, b) {
+        (Kind::Router(_), Kind::Tile(_)) => Port::Up,
         (Kind::Router(a), Kind::Router(b)) => a.way_to(b),
         (Kind::Router(_), Kind::Host) => Port::HostPort,
         _ => Port::Here,
@@ -105,6 +119,79 @@ fn can_arrive_tile<L: Link>(tile: &Tile, link: &L, l: PartId, p: PartId) -> bool
     }
 }
 
+/// Whether a router can give a packet to a link that leads away by this way.
+fn can_send(router: &Router, way: Port) -> bool
+    ensures { result ≡ is_some (router_departs way router.now) }
+{
+    router.counter() < i64::MAX && router.offer(way).is_some()
+}
+
+/// Whether a router can take this packet from a link that leads to it from this side.
+fn can_receive(router: &Router, side: Port, packet: &Packet) -> bool
+    ensures { result ≡ is_some (router_accepts side packet.now router.now) }
+{
+    i64::MIN < router.counter() && router.accepts(side, packet)
+}
+
+/// A packet goes from a router to the link, which leads away by this way.
+fn depart_router<L: Link>(router: &mut Router, link: &mut L, p: PartId, l: PartId, way: Port) -> Did
+    requires { way ≡ link_way router.old.shape l.0 }
+    ensures { DoesBoth (moved result) (meets (event.Depart p l) (RouterV router.old) (LinkV (L.content link.old))) (RouterV router.old) (LinkV (L.content link.old)) (RouterV router.new) (LinkV (L.content link.new)) }
+{
+    if router.counter() == i64::MAX {
+        return Did::Nothing;
+    }
+    let Some(packet) = router.offer(way) else {
+        return Did::Nothing;
+    };
+    if link.put(packet).is_err() {
+        return Did::Nothing;
+    }
+    router.depart(way);
+    Did::Moved
+}
+
+/// A link's first packet goes to a router, to which the link leads from this side.
+fn arrive_router<L: Link>(
+    router: &mut Router,
+    link: &mut L,
+    l: PartId,
+    p: PartId,
+    side: Port,
+) -> Did
+    requires { side ≡ link_side router.old.shape l.0 }
+    ensures { DoesBoth (moved result) (meets (event.Arrive l p) (RouterV router.old) (LinkV (L.content link.old))) (RouterV router.old) (LinkV (L.content link.old)) (RouterV router.new) (LinkV (L.content link.new)) }
+{
+    let Some(packet) = link.front() else {
+        return Did::Nothing;
+    };
+    if !can_receive(router, side, packet) {
+        return Did::Nothing;
+    }
+    router.accept(side, packet);
+    let _taken = link.take();
+    Did::Moved
+}
+
+/// Whether a packet can go from a router to the link, which leads away by this way.
+fn can_depart_router<L: Link>(router: &Router, link: &L, p: PartId, l: PartId, way: Port) -> bool
+    requires { way ≡ link_way router.now.shape l.0 }
+    ensures { result ≡ is_some (meets (event.Depart p l) (RouterV router.now) (LinkV (L.content link.now))) }
+{
+    can_send(router, way) && link.len() < link.capacity()
+}
+
+/// Whether a link's first packet can go to a router, to which the link leads from this side.
+fn can_arrive_router<L: Link>(router: &Router, link: &L, l: PartId, p: PartId, side: Port) -> bool
+    requires { side ≡ link_side router.now.shape l.0 }
+    ensures { result ≡ is_some (meets (event.Arrive l p) (RouterV router.now) (LinkV (L.content link.now))) }
+{
+    match link.front() {
+        Some(packet) => can_receive(router, side, packet),
+        None => false,
+    }
+}
+
 impl<L: Link> Part<L> {
     /// A packet goes from this part to a link, which leads away by this way.
     fn depart(&mut self, link: &mut Part<L>, p: PartId, l: PartId, way: Port) -> Did
@@ -114,17 +201,24 @@ impl<L: Link> Part<L> {
     {
         match (&mut self.contents, &mut link.contents) {
             (Contents::Tile(tile), Contents::Link(link)) => depart_tile(tile, link, p, l, way),
+            (Contents::Router(router), Contents::Link(link)) => {
+                depart_router(router, link, p, l, way)
+            }
             _ => Did::Nothing,
         }
     }
 
-    /// A link's first packet goes to this part.
-    fn arrive(&mut self, link: &mut Part<L>, l: PartId, p: PartId) -> Did
-        requires { NoLink self.old }
+    /// A link's first packet goes to this part, to which the link leads from this side.
+    fn arrive(&mut self, link: &mut Part<L>, l: PartId, p: PartId, side: Port) -> Did
+        requires side { IsSide self.old l.0 side }
+        requires part { NoLink self.old }
         ensures { DoesBoth (moved result) (meets (event.Arrive l p) self.old link.old) self.old link.old self.new link.new }
     {
         match (&mut self.contents, &mut link.contents) {
             (Contents::Tile(tile), Contents::Link(link)) => arrive_tile(tile, link, l, p),
+            (Contents::Router(router), Contents::Link(link)) => {
+                arrive_router(router, link, l, p, side)
+            }
             _ => Did::Nothing,
         }
     }
@@ -137,17 +231,24 @@ impl<L: Link> Part<L> {
     {
         match (&self.contents, &link.contents) {
             (Contents::Tile(tile), Contents::Link(link)) => can_depart_tile(tile, link, p, l, way),
+            (Contents::Router(router), Contents::Link(link)) => {
+                can_depart_router(router, link, p, l, way)
+            }
             _ => false,
         }
     }
 
-    /// Whether a link's first packet can go to this part.
-    fn can_arrive(&self, link: &Part<L>, l: PartId, p: PartId) -> bool
-        requires { NoLink self.now }
+    /// Whether a link's first packet can go to this part, to which the link leads from this side.
+    fn can_arrive(&self, link: &Part<L>, l: PartId, p: PartId, side: Port) -> bool
+        requires side { IsSide self.now l.0 side }
+        requires part { NoLink self.now }
         ensures { result ≡ is_some (meets (event.Arrive l p) self.now link.now) }
     {
         match (&self.contents, &link.contents) {
             (Contents::Tile(tile), Contents::Link(link)) => can_arrive_tile(tile, link, l, p),
+            (Contents::Router(router), Contents::Link(link)) => {
+                can_arrive_router(router, link, l, p, side)
+            }
             _ => false,
         }
     }
@@ -177,13 +278,15 @@ impl<L: Link> World<L> {
         }
     }
 
-    /// Whether a link leads to a part.
-    fn leads_to(&self, l: PartId, p: PartId) -> bool
-        ensures { result ≡ leads_to p.0 (kind_of self.now.shape l.0) }
+    /// The side from which a link leads to a part, where it does; `Here` where the part is no router.
+    fn side_onto(&self, l: PartId, p: PartId) -> Option<Port>
+        ensures { result ≡ (if leads_to p.0 (kind_of self.now.shape l.0) then Some (link_side self.now.shape l.0) else None) }
     {
         match self.kind_at(l) {
-            Kind::Link { to, .. } => to == p,
-            _ => false,
+            Kind::Link { from, to } if to == p => {
+                Some(side_between(self.kind_at(to), self.kind_at(from)))
+            }
+            _ => None,
         }
     }
 
@@ -203,10 +306,10 @@ impl<L: Link> World<L> {
         ensures { Does (moved result) (happened (event.Arrive l p) self.old) self.old self.new }
     {
         law_links(&self.shape);
-        if !self.leads_to(l, p) {
+        let Some(side) = self.side_onto(l, p) else {
             return Did::Nothing;
-        }
-        arrive_at(&mut self.parts, l, p)
+        };
+        arrive_at(&mut self.parts, l, p, side)
     }
 
     /// Whether a packet can go from a part to a link.
@@ -227,7 +330,12 @@ impl<L: Link> World<L> {
         ensures { result ≡ is_some (happened (event.Arrive l p) self.now) }
     {
         law_links(&self.shape);
-        self.leads_to(l, p) && self.parts[p.0 as usize].can_arrive(&self.parts[l.0 as usize], l, p)
+        match self.side_onto(l, p) {
+            Some(side) => {
+                self.parts[p.0 as usize].can_arrive(&self.parts[l.0 as usize], l, p, side)
+            }
+            None => false,
+        }
     }
 }
 
@@ -243,13 +351,14 @@ fn depart_at<L: Link>(parts: &mut Vec<Part<L>>, p: PartId, l: PartId, way: Port)
     front[p.0 as usize].depart(&mut back[0], p, l, way)
 }
 
-/// The first packet of the link at a place goes to the part at another.
-fn arrive_at<L: Link>(parts: &mut Vec<Part<L>>, l: PartId, p: PartId) -> Did
+/// The first packet of the link at a place goes to the part at another, to which the link leads from this side.
+fn arrive_at<L: Link>(parts: &mut Vec<Part<L>>, l: PartId, p: PartId, side: Port) -> Did
     requires low { p.0 < l.0 }
     requires high { l.0 < length parts.old.items }
+    requires side { IsSide (slice_index_or parts.old.items p.0 AbsentV) l.0 side }
     requires part { NoLink (slice_index_or parts.old.items p.0 AbsentV) }
     ensures { Does (moved result) (option_map (set_both parts.old.items p.0 l.0) (meets_at (event.Arrive l p) (slice_get parts.old.items p.0) (slice_get parts.old.items l.0))) parts.old.items parts.new.items }
 {
     let (front, back) = parts.split_at_mut(l.0 as usize);
-    front[p.0 as usize].arrive(&mut back[0], l, p)
+    front[p.0 as usize].arrive(&mut back[0], l, p, side)
 }

@@ -3,9 +3,10 @@
 ghost use Rattle.std.specs.Prelude.{◌≡◌, ◌↔◌, IfOk, IsTrue, MatchResult, is_some, not, option_copied, option_map};
 ghost use Rattle.tn_base.specs.declared.event.Event.TheVariants as event;
 ghost use Rattle.tn_base.specs.Does.{Does};
-ghost use Rattle.tn_rows.specs.Ends.{ended_on, is_over};
+ghost use Rattle.tn_rows.specs.Ends.{bad_key_on, ended_on, is_over};
 ghost use Rattle.tn_rows.specs.Events.{after, carried};
-ghost use Rattle.tn_rows.specs.PartView.{AbsentV, LinkV, TileV, link_of, tile_of};
+ghost use Rattle.tn_rows.specs.PartView.{AbsentV, LinkV, RouterV, TileV, link_of, router_of, tile_of};
+ghost use Rattle.tn_router.specs.Rows.{none_waits as none_waits_out, route_row};
 ghost use Rattle.tn_stamp.specs.declared.entry.Crossing.TheVariants as crossing;
 ghost use Rattle.tn_tile.specs.Rows.{turn_row};
 ghost use Rattle.tn_tile.specs.Still.{none_waits};
@@ -15,9 +16,11 @@ ghost use Rattle.tn_world.specs.Plays.{TurnsPart, offers};
 use std::alloc::AllocError;
 use std::marker::Model;
 use tn_base::event::Outcome;
-use tn_base::ids::ThreadId;
+use tn_base::ids::{PartId, ThreadId};
 use tn_base::port::Port;
 use tn_link::link::Link;
+use tn_router::moves::Routed;
+use tn_router::router::Router;
 use tn_thread::state::ThreadState;
 use tn_tile::deliver::Did;
 use tn_tile::step::Turned;
@@ -27,11 +30,12 @@ use tn_tile::tile::Tile;
 #[derive(Drop)]
 pub(crate) enum Contents<L> {
     Tile(Tile),
+    Router(Router),
     Link(L),
     Absent,
 }
 
-/// A part of a machine: a tile, a link, or one of those that are not built yet. No event touches an absent part.
+/// A part of a machine: a tile, a router, a link, or one of those that are not built yet. No event touches an absent part.
 #[derive(Drop)]
 pub struct Part<L: Link> {
     pub(crate) contents: Contents<L>,
@@ -54,6 +58,15 @@ impl<L: Link> Part<L> {
     {
         Part {
             contents: Contents::Tile(tile),
+        }
+    }
+
+    /// A router.
+    pub fn router(router: Router) -> Part<L>
+        ensures { result ≡ RouterV router }
+    {
+        Part {
+            contents: Contents::Router(router),
         }
     }
 
@@ -81,6 +94,7 @@ impl<L: Link> Part<L> {
     {
         match &self.contents {
             Contents::Tile(tile) => Ok(Part::tile(tile.copy()?)),
+            Contents::Router(router) => Ok(Part::router(router.copy()?)),
             Contents::Link(link) => Ok(Part::link(link.copy()?)),
             Contents::Absent => Ok(Part::absent()),
         }
@@ -92,6 +106,7 @@ impl<L: Link> Part<L> {
     {
         match (&self.contents, &other.contents) {
             (Contents::Tile(a), Contents::Tile(b)) => a.same(b),
+            (Contents::Router(a), Contents::Router(b)) => a.same(b),
             (Contents::Link(a), Contents::Link(b)) => a.same(b),
             (Contents::Absent, Contents::Absent) => true,
             _ => false,
@@ -104,7 +119,17 @@ impl<L: Link> Part<L> {
     {
         match &self.contents {
             Contents::Tile(tile) => Some(tile),
-            Contents::Link(_) | Contents::Absent => None,
+            Contents::Router(_) | Contents::Link(_) | Contents::Absent => None,
+        }
+    }
+
+    /// The router that the part is.
+    pub fn as_router(&self) -> Option<&Router>
+        ensures { option_copied result ≡ router_of self.now }
+    {
+        match &self.contents {
+            Contents::Router(router) => Some(router),
+            Contents::Tile(_) | Contents::Link(_) | Contents::Absent => None,
         }
     }
 
@@ -114,7 +139,7 @@ impl<L: Link> Part<L> {
     {
         match &self.contents {
             Contents::Link(link) => Some(link),
-            Contents::Tile(_) | Contents::Absent => None,
+            Contents::Tile(_) | Contents::Router(_) | Contents::Absent => None,
         }
     }
 
@@ -134,7 +159,7 @@ impl<L: Link> Part<L> {
     {
         match &mut self.contents {
             Contents::Tile(tile) => turn_tile(tile, t, n),
-            Contents::Link(_) | Contents::Absent => Ok(Did::Nothing),
+            Contents::Router(_) | Contents::Link(_) | Contents::Absent => Ok(Did::Nothing),
         }
     }
 
@@ -154,7 +179,7 @@ impl<L: Link> Part<L> {
     {
         match &self.contents {
             Contents::Tile(tile) => tile.is_here(t) && tile.can_turn(t),
-            Contents::Link(_) | Contents::Absent => false,
+            Contents::Router(_) | Contents::Link(_) | Contents::Absent => false,
         }
     }
 
@@ -164,8 +189,28 @@ impl<L: Link> Part<L> {
     {
         match &self.contents {
             Contents::Tile(tile) => tile.is_here(t) && tile.can_deliver(t),
-            Contents::Link(_) | Contents::Absent => false,
+            Contents::Router(_) | Contents::Link(_) | Contents::Absent => false,
         }
+    }
+
+    /// A router does one record of a packet, or sends on the whole of one.
+    pub(crate) fn route(&mut self, p: PartId) -> Did
+        ensures { Does (moved result) (after (event.Route p) crossing.None self.old) self.old self.new }
+    {
+        let Contents::Router(router) = &mut self.contents else {
+            return Did::Nothing;
+        };
+        did_route(router)
+    }
+
+    /// Whether a router can do so.
+    pub(crate) fn can_route(&self, p: PartId) -> bool
+        ensures { result ≡ is_some (after (event.Route p) crossing.None self.now) }
+    {
+        let Contents::Router(router) = &self.contents else {
+            return false;
+        };
+        router.can_route()
     }
 
     /// Whether a packet waits here for a way out.
@@ -174,6 +219,7 @@ impl<L: Link> Part<L> {
     {
         match &self.contents {
             Contents::Tile(tile) => offers_any(tile),
+            Contents::Router(router) => sends_any(router),
             Contents::Link(_) | Contents::Absent => false,
         }
     }
@@ -184,7 +230,7 @@ impl<L: Link> Part<L> {
     {
         match &self.contents {
             Contents::Link(link) => link.front().is_some(),
-            Contents::Tile(_) | Contents::Absent => false,
+            Contents::Tile(_) | Contents::Router(_) | Contents::Absent => false,
         }
     }
 
@@ -194,7 +240,17 @@ impl<L: Link> Part<L> {
     {
         match &self.contents {
             Contents::Tile(tile) => end_on(tile, t),
-            Contents::Link(_) | Contents::Absent => None,
+            Contents::Router(_) | Contents::Link(_) | Contents::Absent => None,
+        }
+    }
+
+    /// How a run ends with a routing after which the part is this one, where the router found a bad key.
+    pub(crate) fn bad_key(&self) -> Option<Outcome>
+        ensures { result ≡ bad_key_on self.now }
+    {
+        match &self.contents {
+            Contents::Router(router) => router.ended().map(Outcome::BadKey),
+            Contents::Tile(_) | Contents::Link(_) | Contents::Absent => None,
         }
     }
 
@@ -204,6 +260,7 @@ impl<L: Link> Part<L> {
     {
         match &self.contents {
             Contents::Tile(tile) => tile.still() && !tile.live(),
+            Contents::Router(router) => router.still(),
             Contents::Link(link) => link.len() == 0,
             Contents::Absent => true,
         }
@@ -219,6 +276,29 @@ fn offers_any(tile: &Tile) -> bool
         && tile.buffer(Port::South).is_none()
         && tile.buffer(Port::North).is_none()
         && tile.buffer(Port::Up).is_none())
+}
+
+/// Whether a packet waits in a router for a way out.
+fn sends_any(router: &Router) -> bool
+    ensures { result ≡ not (none_waits_out router.now.out) }
+{
+    !(router.buffer(Port::East).is_none()
+        && router.buffer(Port::West).is_none()
+        && router.buffer(Port::South).is_none()
+        && router.buffer(Port::North).is_none()
+        && router.buffer(Port::Down).is_none()
+        && router.buffer(Port::HostPort).is_none())
+}
+
+/// A Route, where the router can make one. The bad key that it finds stays noted there.
+fn did_route(router: &mut Router) -> Did
+    ensures { Does (moved result) (route_row router.old) router.old router.new }
+{
+    match router.route() {
+        Routed::Moved => Did::Moved,
+        Routed::BadKey(_) => Did::Moved,
+        Routed::Nothing => Did::Nothing,
+    }
 }
 
 /// A turn of so many steps, made on a copy of the tile.

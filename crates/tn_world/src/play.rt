@@ -74,6 +74,7 @@ fn make<L: Link>(world: &mut World<L>, e: &Event) -> Option<Event>
         Event::Deliver(t) => made(world.deliver(t), *e),
         Event::Depart(p, l) => made(world.depart(p, l), *e),
         Event::Arrive(l, p) => made(world.arrive(l, p), *e),
+        Event::Route(p) => made(world.route(p), *e),
         _ => None,
     }
 }

@@ -1,9 +1,9 @@
 use Rattle.std.proofs.Common.{◌≡◌, ◌++◌}
 use Rattle.tn_base.specs.Address.{tile_threads}
 use Rattle.tn_bag.specs.Standing.{pending_of, pending_standing}
-use Rattle.tn_bag.specs.Tiles.{no_reach}
+use Rattle.tn_bag.specs.Tiles.{reach_of}
 use Rattle.tn_bag.proofs.Loops.{from_on}
 use Rattle.tn_bag.proofs.places.push_pending.Given as goal
 
 abbrev pub invariant-loop-place : goal.invariant-loop-place
-invariant-loop-place l = l.all.items ++ from_on (pending_of no_reach l.tile) l.place (tile_threads l.tile.shape) ≡ l.initial.all.items ++ pending_standing no_reach l.tile
+invariant-loop-place g l = l.all.items ++ from_on (pending_of (reach_of l.world) l.tile) l.place (tile_threads l.tile.shape) ≡ l.initial.all.items ++ pending_standing (reach_of l.world) l.tile

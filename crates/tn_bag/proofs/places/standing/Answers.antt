@@ -1,7 +1,7 @@
 use Rattle.std.proofs.Common.{rules, ◌∙◌, ◌++◌, ◌≤◌, ◌<◌, ap}
 use Rattle.tn_base.specs.Parts.{part_count}
 use Rattle.tn_bag.specs.Standing.{part_standing, standing_on}
-use Rattle.tn_bag.specs.Tiles.{no_reach}
+use Rattle.tn_bag.specs.Tiles.{reach_of}
 use Rattle.tn_bag.proofs.Loops.{at_end, from_on, from_start, one_more}
 use Rattle.tn_bag.proofs.places.standing.Goals as goal
 
@@ -11,7 +11,7 @@ loop-p-init g c = ap (λ xs. xs ++ from_on (standing_on c.args.world.now) 0 (par
 pub loop-p-preserved : goal.loop-p-preserved
 loop-p-preserved g c =
     let h : c.loop-p.p < part_count c.args.world.now.shape = search rules in
-    one_more (standing_on c.args.world.now) c.loop-p.p (part_count c.args.world.now.shape) c.loop-p.all.items c.push_part.new.all.items h (c.in_ok-push_part.ensures ∙ (ap (λ n. c.loop-p.all.items ++ part_standing n no_reach c.loop-p.p c.part.result.now) c.shape-in-loop-p.ensures ∙ ap (λ v. c.loop-p.all.items ++ part_standing c.args.world.now.shape no_reach c.loop-p.p v) c.part.ensures)) ∙ c.loop-p.invariant
+    one_more (standing_on c.args.world.now) c.loop-p.p (part_count c.args.world.now.shape) c.loop-p.all.items c.push_part.new.all.items h (c.in_ok-push_part.ensures ∙ ap (λ v. c.loop-p.all.items ++ part_standing c.args.world.now.shape (reach_of c.args.world.now) c.loop-p.p v) c.part.ensures) ∙ c.loop-p.invariant
 
 pub returns : goal.returns
 returns g c =

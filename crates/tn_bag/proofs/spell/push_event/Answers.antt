@@ -1,8 +1,9 @@
-use Rattle.std.proofs.Common.{◌∙◌, ◌≡◌, ◌++◌, ap, sym, subst, is_some}
-use Rattle.std.specs.Prelude.{OnOk, option_copied}
+use Rattle.std.proofs.Common.{◌∙◌, ◌++◌, ap, sym, is_some}
+use Rattle.std.specs.Prelude.{option_copied}
 use Rattle.tn_rows.specs.Events.{happened}
 use Rattle.tn_bag.specs.Steps.{event_steps}
-use Rattle.tn_bag.proofs.Arrivals.{arrival_is, arrives, front_fits}
+use Rattle.tn_bag.specs.Tiles.{reach_of}
+use Rattle.tn_bag.proofs.Arrivals.{arrival_is, arrives, front_fits, on_ok}
 use Rattle.tn_bag.proofs.spell.push_event.Goals as goal
 
 pub push_delivery-requires : goal.push_delivery-requires
@@ -17,5 +18,6 @@ returns-in-Some-tile_at g c =
     let w = c.args.world.now in
     let some = ap (λ e. is_some (happened e w)) (sym c.in-Arrive.is) ∙ c.requires in
     let a = arrives w c.in-Arrive.l c.in-Arrive.p c.in-Some-tile_at.tile.now some (sym c.tile_at.ensures ∙ ap option_copied c.in-Some-tile_at.is) in
-    subst (λ steps. OnOk c.push_delivery.result (c.push_delivery.new.all.items ≡ c.args.all.now.items ++ steps))
-    (arrival_is w c.in-Arrive.l c.in-Arrive.p c.in-Some-tile_at.tile.now (option_copied c.front_at.result) a c.front_at.ensures ∙ ap (λ e. event_steps e w) (sym c.in-Arrive.is)) c.push_delivery.ensures
+    on_ok c.push_delivery.result
+    (λ h. h (reach_of w) ∙ ap (λ steps. c.args.all.now.items ++ steps) (arrival_is w c.in-Arrive.l c.in-Arrive.p c.in-Some-tile_at.tile.now (option_copied c.front_at.result) a c.front_at.ensures ∙ ap (λ e. event_steps e w) (sym c.in-Arrive.is)))
+    c.push_delivery.ensures

@@ -1,7 +1,7 @@
 use Rattle.std.proofs.Common.{◌≡◌, length, subst}
 use Rattle.tn_base.specs.Parts.{part_count}
 use Rattle.tn_rows.specs.WorldView.{WorldView}
-use Rattle.tn_world.proofs.Listed.{Each, last_list, listed_delivery, listed_departure, listed_turn}
+use Rattle.tn_world.proofs.Listed.{Each, last_list, listed_arrival, listed_delivery, listed_departure, listed_turn}
 use Rattle.tn_world.proofs.events.enabled.Goals as goal
 
 pub returns-in-Some : goal.returns-in-Some
@@ -13,8 +13,11 @@ returns-in-Some-first_delivery g c = listed_delivery c.args.world.now c.in-Some-
 pub returns-in-Some-first_departure : goal.returns-in-Some-first_departure
 returns-in-Some-first_departure g c = listed_departure c.args.world.now c.in-Some-first_departure.e c.in_default.ensures c.in_default-first_delivery.ensures c.in-Some-first_departure.ensures
 
+pub returns-in-Some-first_arrival : goal.returns-in-Some-first_arrival
+returns-in-Some-first_arrival g c = listed_arrival c.args.world.now c.in-Some-first_arrival.e c.in_default.ensures c.in_default-first_delivery.ensures c.in_default-first_departure.ensures c.in-Some-first_arrival.ensures
+
 pub returns : goal.returns
 returns g c =
     let count = subst (λ (w : WorldView). length w.parts ≡ part_count w.shape) c.world.view_is c.world.invariant.count in
     let each = subst (λ (w : WorldView). Each w.shape) c.world.view_is c.law_threads.ensures.each in
-    last_list c.args.world.now c.first_arrival.result count each c.in_default.ensures c.in_default-first_delivery.ensures c.in_default-first_departure.ensures c.first_arrival.ensures
+    last_list c.args.world.now c.first_routing.result count each c.in_default.ensures c.in_default-first_delivery.ensures c.in_default-first_departure.ensures c.in_default-first_arrival.ensures c.first_routing.ensures
