@@ -137,5 +137,5 @@ pub(crate) fn start_of(
 {
     let images = Images::of(alloc, shape.numbers().mem, job.fills.as_slice())?;
     let parts = parts_of(alloc, shape, &images, job, asms)?;
-    Ok(World::of(*shape, parts))
+    World::of(*shape, parts)
 }

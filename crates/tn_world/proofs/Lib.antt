@@ -5,5 +5,6 @@ pub mod Listed
 pub mod Others
 pub mod Pairs
 pub mod Places
+pub mod Sites
 pub mod Steps
 pub mod Ways

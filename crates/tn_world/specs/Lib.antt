@@ -1,3 +1,4 @@
 pub mod Joint
 pub mod Plays
+pub mod Sites
 pub mod Views

@@ -3,6 +3,7 @@
 //! An agenda is advice. It goes round the parts on which something may happen, so that an event costs no look at the
 //! others; what it leaves out is found by a look at all events before a run ends, so it can cost time and never an event.
 
+use crate::site::Site;
 use std::alloc::{AllocError, Global};
 use tn_base::event::Event;
 use tn_base::ids::{PartId, ThreadId};
@@ -37,8 +38,8 @@ pub(crate) struct Agenda {
 
 impl Agenda {
     /// All events of a machine: of each part arrivals first, then deliveries or routings, turns and departures.
-    pub(crate) fn of(alloc: Global, shape: &Shape) -> Result<Agenda, AllocError> {
-        let ends = ends_of(alloc, shape)?;
+    pub(crate) fn of(alloc: Global, shape: &Shape, sites: &[Site]) -> Result<Agenda, AllocError> {
+        let ends = ends_of(alloc, sites)?;
         let first_link = shape.visited();
         let mut stops = Vec::new(alloc);
         for _ in 0..first_link {
@@ -46,7 +47,7 @@ impl Agenda {
         }
         push_arrivals(&mut stops, &ends, first_link)?;
         push_deliveries(&mut stops, shape)?;
-        push_routings(&mut stops, shape)?;
+        push_routings(&mut stops, sites)?;
         push_turns(&mut stops, shape)?;
         push_departures(&mut stops, &ends, first_link)?;
         let mut agenda = Agenda {
@@ -147,10 +148,10 @@ impl Agenda {
 }
 
 /// The ends of each link, in order.
-fn ends_of(alloc: Global, shape: &Shape) -> Result<Vec<Ends>, AllocError> {
+fn ends_of(alloc: Global, sites: &[Site]) -> Result<Vec<Ends>, AllocError> {
     let mut all = Vec::new(alloc);
-    for l in shape.visited()..shape.part_count() {
-        if let Kind::Link { from, to } = shape.kind(PartId(l)) {
+    for site in sites {
+        if let Kind::Link { from, to } = site.kind {
             all.push(Ends { from, to })?;
         }
     }
@@ -209,11 +210,13 @@ fn push_deliveries(stops: &mut Vec<Vec<Event>>, shape: &Shape) -> Result<(), All
     Ok(())
 }
 
-fn push_routings(stops: &mut Vec<Vec<Event>>, shape: &Shape) -> Result<(), AllocError> {
-    for p in 0..shape.part_count() {
-        if let Kind::Router(_) = shape.kind(PartId(p)) {
+fn push_routings(stops: &mut Vec<Vec<Event>>, sites: &[Site]) -> Result<(), AllocError> {
+    let mut p = 0;
+    for site in sites {
+        if let Kind::Router(_) = site.kind {
             push_event(stops, PartId(p), Event::Route(PartId(p)))?;
         }
+        p = p.wrapping_add(1);
     }
     Ok(())
 }

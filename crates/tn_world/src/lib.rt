@@ -8,4 +8,5 @@ pub mod events;
 mod links;
 pub mod part;
 pub mod play;
+mod site;
 pub mod world;

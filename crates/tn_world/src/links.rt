@@ -1,55 +1,31 @@
 //! Events on a tile or a router and a link: departures and arrivals.
 
-ghost use Rattle.std.specs.Prelude.{◌≡◌, ◌<◌, Some, None, is_some, length, option_map, slice_get, slice_index_or, if◌then◌else◌};
+ghost use Rattle.std.specs.Prelude.{◌≡◌, ◌<◌, Some, None, is_some, length, MatchOption, option_map, slice_get, slice_index_or, if◌then◌else◌};
 ghost use Rattle.tn_base.specs.declared.event.Event.TheVariants as event;
 ghost use Rattle.tn_base.specs.declared.part.Kind.TheVariants as kind;
 ghost use Rattle.tn_base.specs.Does.{Does};
 ghost use Rattle.tn_base.specs.Parts.{kind_of};
 ghost use Rattle.tn_rows.specs.Events.{happened, meets, meets_at};
 ghost use Rattle.tn_rows.specs.PartView.{AbsentV, LinkV, RouterV, TileV};
-ghost use Rattle.tn_rows.specs.Places.{leads_from, leads_to, link_side, link_way, side_between, way_between};
+ghost use Rattle.tn_rows.specs.Places.{leads_from, leads_to, link_side, link_way};
 ghost use Rattle.tn_router.specs.Rows.{accept_row as router_accepts, depart_row as router_departs};
 ghost use Rattle.tn_tile.specs.Rows.{accept_row, depart_row};
 ghost use Rattle.tn_tile.specs.Turns.{moved};
+ghost use Rattle.tn_world.specs.Sites.{site_of};
 ghost use Rattle.tn_world.specs.Joint.{DoesBoth, IsLink, IsSide, IsWay, NoLink, set_both};
 
 use crate::part::{Contents, Part};
+use crate::site::Site;
 use crate::world::World;
-use tn_base::ids::{PartId, ThreadId};
+use tn_base::ids::PartId;
 use tn_base::laws::law_links;
-use tn_base::message::{Dest, Packet};
+use tn_base::message::Packet;
 use tn_base::part::Kind;
 use tn_base::port::Port;
 use tn_link::link::Link;
 use tn_router::router::Router;
 use tn_tile::deliver::Did;
 use tn_tile::tile::Tile;
-
-/// The way between two neighbours.
-fn way_between(a: Kind, b: Kind) -> Port
-    ensures { result ≡ way_between a b }
-{
-    match (a, b) {
-        (Kind::Tile(a), Kind::Tile(b)) => a.port(&Dest::Thread(ThreadId(b.0))),
-        (Kind::Tile(_), Kind::Router(_)) => Port::Up,
-        (Kind::Router(_), Kind::Tile(_)) => Port::Down,
-        (Kind::Router(a), Kind::Router(b)) => a.way_to(b),
-        (Kind::Router(_), Kind::Host) => Port::HostPort,
-        _ => Port::Here,
-    }
-}
-
-/// The side of a router from which a packet comes that came from this neighbour.
-fn side_between(a: Kind, b: Kind) -> Port
-    ensures { result ≡ side_between a b }
-{
-    match (a, b) {
-        (Kind::Router(_), Kind::Tile(_)) => Port::Up,
-        (Kind::Router(a), Kind::Router(b)) => a.way_to(b),
-        (Kind::Router(_), Kind::Host) => Port::HostPort,
-        _ => Port::Here,
-    }
-}
 
 /// Whether a tile can give a packet to a link that leads away by this way.
 fn can_give(tile: &Tile, way: Port) -> bool
@@ -255,25 +231,20 @@ impl<L: Link> Part<L> {
 }
 
 impl<L: Link> World<L> {
-    /// What stands at a place of the machine; past the last part the detector's kind.
-    fn kind_at(&self, p: PartId) -> Kind
-        ensures { result ≡ kind_of self.now.shape p.0 }
+    /// What stands at a place; none past the last part.
+    fn site(&self, p: PartId) -> Option<&Site>
+        ensures { MatchOption result (kind_of self.now.shape p.0 ≡ kind.Detector) (λ site. site.now ≡ site_of self.now.shape p.0) }
     {
-        if p.0 < self.shape.part_count() {
-            self.shape.kind(p)
-        } else {
-            Kind::Detector
-        }
+        self.sites.get(p.0 as usize)
     }
 
     /// The way by which a link leads away from a part, where it does.
     fn way_from(&self, p: PartId, l: PartId) -> Option<Port>
         ensures { result ≡ (if leads_from p.0 (kind_of self.now.shape l.0) then Some (link_way self.now.shape l.0) else None) }
     {
-        match self.kind_at(l) {
-            Kind::Link { from, to } if from == p => {
-                Some(way_between(self.kind_at(from), self.kind_at(to)))
-            }
+        let site = self.site(l)?;
+        match site.kind {
+            Kind::Link { from, .. } if from == p => Some(site.way),
             _ => None,
         }
     }
@@ -282,10 +253,9 @@ impl<L: Link> World<L> {
     fn side_onto(&self, l: PartId, p: PartId) -> Option<Port>
         ensures { result ≡ (if leads_to p.0 (kind_of self.now.shape l.0) then Some (link_side self.now.shape l.0) else None) }
     {
-        match self.kind_at(l) {
-            Kind::Link { from, to } if to == p => {
-                Some(side_between(self.kind_at(to), self.kind_at(from)))
-            }
+        let site = self.site(l)?;
+        match site.kind {
+            Kind::Link { to, .. } if to == p => Some(site.side),
             _ => None,
         }
     }

@@ -22,7 +22,7 @@ pub fn play<L: Link>(world: &mut World<L>, limit: u64) -> Result<Vec<Event>, All
     ensures { MatchResult result (λ history. Played limit world.old history.items world.new) (λ _. Reached world.old world.new) }
 {
     let alloc = world.parts.allocator().clone()?;
-    let mut agenda = Agenda::of(alloc, &world.shape)?;
+    let mut agenda = Agenda::of(alloc, &world.shape, &world.sites)?;
     let mut history = Vec::new(alloc);
     while (history.len() as u64) < limit {
         let Some(event) = next_move(world, &mut agenda) else {

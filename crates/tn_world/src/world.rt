@@ -6,37 +6,44 @@ ghost use Rattle.tn_rows.specs.Events.{IsWorld};
 ghost use Rattle.tn_rows.specs.PartView.{AbsentV};
 
 use crate::part::Part;
+use crate::site::{Site, sites_of};
 use std::alloc::AllocError;
 use std::marker::Model;
 use tn_base::ids::PartId;
 use tn_base::shape::Shape;
 use tn_link::link::Link;
 
-/// A machine: its shape, and one part for each part of the shape.
+/// A machine: its shape, one part for each part of the shape, and what the shape says of each place.
 #[derive(Drop)]
 pub struct World<L: Link> {
     pub(crate) shape: Shape,
     pub(crate) parts: Vec<Part<L>>,
+    pub(crate) sites: Vec<Site>,
 }
 
 impl<L: Link> Model for World<L> {
-    ghost use Rattle.tn_rows.specs.Events.{IsWorld};
     ghost use Rattle.tn_rows.specs.WorldView.{WorldView};
+    ghost use Rattle.tn_world.specs.Sites.{IsSited};
 
     ghost Value = { WorldView };
 
     ghost view = { λ w. record { shape = w.shape; parts = w.parts.items } };
 
-    ghost invariant = { λ w. IsWorld (record { shape = w.shape; parts = w.parts.items }) };
+    ghost invariant = { λ w. IsSited (record { shape = w.shape; parts = w.parts.items }) w.sites.items };
 }
 
 impl<L: Link> World<L> {
     /// The machine of these parts, one for each part of the shape, each what the shape names there.
-    pub fn of(shape: Shape, parts: Vec<Part<L>>) -> World<L>
+    pub fn of(shape: Shape, parts: Vec<Part<L>>) -> Result<World<L>, AllocError>
         requires { IsWorld (record { shape = shape; parts = parts.items }) }
-        ensures { result ≡ record { shape = shape; parts = parts.items } }
+        ensures { IfOk result (λ w. w ≡ record { shape = shape; parts = parts.items }) }
     {
-        World { shape, parts }
+        let sites = sites_of(parts.allocator().clone()?, &shape)?;
+        Ok(World {
+            shape,
+            parts,
+            sites,
+        })
     }
 
     /// The numbers of the machine.
@@ -69,6 +76,7 @@ impl<L: Link> World<L> {
         Ok(World {
             shape: self.shape,
             parts,
+            sites: self.sites.clone()?,
         })
     }
 

@@ -18,6 +18,6 @@ returns-in-Some-first_arrival g c = listed_arrival c.args.world.now c.in-Some-fi
 
 pub returns : goal.returns
 returns g c =
-    let count = subst (λ (w : WorldView). length w.parts ≡ part_count w.shape) c.world.view_is c.world.invariant.count in
+    let count = subst (λ (w : WorldView). length w.parts ≡ part_count w.shape) c.world.view_is c.world.invariant.world.count in
     let each = subst (λ (w : WorldView). Each w.shape) c.world.view_is c.law_threads.ensures.each in
     last_list c.args.world.now c.first_routing.result count each c.in_default.ensures c.in_default-first_delivery.ensures c.in_default-first_departure.ensures c.in_default-first_arrival.ensures c.first_routing.ensures

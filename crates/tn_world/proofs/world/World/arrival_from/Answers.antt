@@ -18,7 +18,7 @@ returns-then-not-carries g c =
     let w : WorldView = record { shape = c.self.inside.shape; parts = c.self.inside.parts.items } in
     let same : w.shape ≡ c.args.self.now.shape = ap (λ (w : WorldView). w.shape) c.self.view_is in
     let less : c.args.l.0 < part_count w.shape = subst (λ (n : ShapeNumbers). c.args.l.0 < part_count n) (sym same) c.requires in
-    let within : c.args.l.0 < length w.parts = subst (λ m. c.args.l.0 < m) (sym c.self.invariant.count) less in
+    let within : c.args.l.0 < length w.parts = subst (λ m. c.args.l.0 < m) (sym c.self.invariant.world.count) less in
     let here = read w c.args.l.0 c.index.result.now (record { within = within; is = c.index.ensures }) in
     subst (λ (w : WorldView). NoneOf w (arrivals_from w.shape c.args.l.0)) c.self.view_is
     (no_arrival_from w c.args.l (part_count w.shape) (le_refl (part_count w.shape)) (λ k h. none_arrives w c.args.l (part_id k) c.index.result.now here (sym c.carries.ensures ∙ c.if-not-carries.true)))

@@ -13,18 +13,21 @@ use Rattle.tn_world.proofs.world.World.depart.Goals as goal
 pub depart_at-requires : goal.depart_at-requires
 depart_at-requires g c =
     let w : WorldView = record { shape = c.self.inside.shape; parts = c.self.inside.parts.items } in
-    let joins : Leads w c.args.p.0 c.args.l.0 c.in-Some.way = leads w c.args.self.now.shape c.args.p.0 c.args.l.0 c.in-Some.way (ap (λ (w : WorldView). w.shape) c.self.view_is) c.in-Some.ensures c.law_links.ensures c.self.invariant in
+    let joins : Leads w c.args.p.0 c.args.l.0 c.in-Some.way = leads w c.args.self.now.shape c.args.p.0 c.args.l.0 c.in-Some.way (ap (λ (w : WorldView). w.shape) c.self.view_is) c.in-Some.ensures c.law_links.ensures c.self.invariant.world in
     record { low = joins.pair.less; high = joins.pair.high; way = joins.way_is; link = joins.pair.link }
 
 pub invariant_of-self : goal.invariant_of-self
 invariant_of-self g c =
     let w : WorldView = record { shape = c.self.inside.shape; parts = c.self.inside.parts.items } in
-    let joins : Leads w c.args.p.0 c.args.l.0 c.in-Some.way = leads w c.args.self.now.shape c.args.p.0 c.args.l.0 c.in-Some.way (ap (λ (w : WorldView). w.shape) c.self.view_is) c.in-Some.ensures c.law_links.ensures c.self.invariant in
-    both_keeps w (event.Depart c.args.p c.args.l) c.args.p.0 c.args.l.0 c.depart_at.new.parts.items (moved c.depart_at.result) joins.pair.less c.depart_at.ensures c.self.invariant
+    let joins : Leads w c.args.p.0 c.args.l.0 c.in-Some.way = leads w c.args.self.now.shape c.args.p.0 c.args.l.0 c.in-Some.way (ap (λ (w : WorldView). w.shape) c.self.view_is) c.in-Some.ensures c.law_links.ensures c.self.invariant.world in
+    record {
+      world = both_keeps w (event.Depart c.args.p c.args.l) c.args.p.0 c.args.l.0 c.depart_at.new.parts.items (moved c.depart_at.result) joins.pair.less c.depart_at.ensures c.self.invariant.world;
+      all = c.self.invariant.all;
+    }
 
 pub returns : goal.returns
 returns g c =
     let w : WorldView = record { shape = c.self.inside.shape; parts = c.self.inside.parts.items } in
-    let joins : Leads w c.args.p.0 c.args.l.0 c.in-Some.way = leads w c.args.self.now.shape c.args.p.0 c.args.l.0 c.in-Some.way (ap (λ (w : WorldView). w.shape) c.self.view_is) c.in-Some.ensures c.law_links.ensures c.self.invariant in
+    let joins : Leads w c.args.p.0 c.args.l.0 c.in-Some.way = leads w c.args.self.now.shape c.args.p.0 c.args.l.0 c.in-Some.way (ap (λ (w : WorldView). w.shape) c.self.view_is) c.in-Some.ensures c.law_links.ensures c.self.invariant.world in
     subst (λ (x : WorldView). Does (moved c.depart_at.result) (happened (event.Depart c.args.p c.args.l) x) x (record { shape = c.self.inside.shape; parts = c.depart_at.new.parts.items })) c.self.view_is
     (both_world w (event.Depart c.args.p c.args.l) (leads_from c.args.p.0 (kind_of w.shape c.args.l.0)) c.args.p.0 c.args.l.0 c.depart_at.new.parts.items (moved c.depart_at.result) joins.there c.depart_at.ensures)

@@ -18,7 +18,7 @@ returns-then-not-offers g c =
     let w : WorldView = record { shape = c.self.inside.shape; parts = c.self.inside.parts.items } in
     let same : w.shape ≡ c.args.self.now.shape = ap (λ (w : WorldView). w.shape) c.self.view_is in
     let less : c.args.p.0 < part_count w.shape = subst (λ (n : ShapeNumbers). c.args.p.0 < part_count n) (sym same) c.requires in
-    let within : c.args.p.0 < length w.parts = subst (λ m. c.args.p.0 < m) (sym c.self.invariant.count) less in
+    let within : c.args.p.0 < length w.parts = subst (λ m. c.args.p.0 < m) (sym c.self.invariant.world.count) less in
     let here = read w c.args.p.0 c.index.result.now (record { within = within; is = c.index.ensures }) in
     subst (λ (w : WorldView). NoneOf w (departures_from w.shape c.args.p.0)) c.self.view_is
     (no_departure_from w c.args.p (part_count w.shape) (le_refl (part_count w.shape)) (λ k h. none_departs w c.args.p (part_id k) c.index.result.now here (sym c.offers.ensures ∙ c.if-not-offers.true)))
