@@ -95,12 +95,7 @@ fn play_and_spell(alloc: Global, start: &World<PlainLink>, limit: u64) -> Result
 }
 
 /// So many steps that concern the thread alone.
-fn push_private(
-    all: &mut Vec<BagStep>,
-    thread: u32,
-    count: u32,
-    seen: Seen,
-) -> Result<(), Fail> {
+fn push_private(all: &mut Vec<BagStep>, thread: u32, count: u32, seen: Seen) -> Result<(), Fail> {
     for _ in 0..count {
         all.push(BagStep::Private { thread, seen })?;
     }
