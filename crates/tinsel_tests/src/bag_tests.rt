@@ -296,3 +296,49 @@ fn a_keyed_message_in_the_bag(rt: HostRuntime) -> Result<(), Fail> {
     ];
     stand(&rt, alloc, &spelled.end, left.as_slice())
 }
+
+/// Thread 0 sends by key 1: to itself with key 7, and over the boards' link, behind which a URM1 with key 8 and an MRM with
+/// key 9 lead to the other board's thread.
+const ACROSS: &[u8] = b"tinsel 1\nshape 2 1 1 1 1 1\nasm all\n\
+    csrrs a0, HartId, x0\nbnez a0, quit\nli a1, 1\ncsrrw x0, SendDest, a1\n\
+    li a1, 2\ncsrrw x0, Send, a1\nquit: csrrw x0, Kill, x0\nend\ntable 0 0\n\
+    020000e000000000220000000000000000000000000000000000000000000000\nend\ntable 1 0\n\
+    0300000001000000830480000000000000000000000000000000000000000000\nend\n";
+
+/// The routers of the machine of `ACROSS`, and the link between them.
+const WESTERN: PartId = PartId(3);
+
+const EASTERN: PartId = PartId(4);
+
+const BETWEEN: PartId = PartId(8);
+
+/// The packet comes to the first router, which does both records: one goes down, one east.
+const TO_EDGE: [Event; 6] = [
+    Event::Turn(ThreadId(0), 6),
+    Event::Deliver(ThreadId(0)),
+    Event::Depart(PartId(1), PartId(5)),
+    Event::Arrive(PartId(5), WESTERN),
+    Event::Route(WESTERN),
+    Event::Route(WESTERN),
+];
+
+/// The receivers and first bytes of the letters for each board.
+const NEAR: [(u32, [u8; 4]); 1] = [(0, [7, 0, 0, 0])];
+
+const FAR: [(u32, [u8; 4]); 2] = [(1024, [8, 0, 0, 0]), (1024, [9, 0, 0, 0])];
+
+#[test]
+fn letters_between_boards(rt: HostRuntime) -> Result<(), Fail> {
+    let alloc: Global = rt.alloc();
+    let mut world = machine(&rt, alloc, ACROSS)?;
+    let near = (Place::Transit(WESTERN, Port::Down), NEAR.as_slice());
+    let waits = (Place::Transit(WESTERN, Port::East), FAR.as_slice());
+    let crosses = (Place::OnLink(BETWEEN, 0), FAR.as_slice());
+    let works = (Place::InProcess(EASTERN, Port::West), FAR.as_slice());
+    assert!(rt; replay(&mut world, TO_EDGE.as_slice())?);
+    stand(&rt, alloc, &world, [waits, near].as_slice())?;
+    makes(&rt, &mut world, Event::Depart(WESTERN, BETWEEN), Did::Moved)?;
+    stand(&rt, alloc, &world, [near, crosses].as_slice())?;
+    makes(&rt, &mut world, Event::Arrive(BETWEEN, EASTERN), Did::Moved)?;
+    stand(&rt, alloc, &world, [near, works].as_slice())
+}
