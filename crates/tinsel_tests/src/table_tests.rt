@@ -1,5 +1,5 @@
-//! Keyed messages through whole calls: over boards, by full beats, and tables that are refused. The beats and what each
-//! job ends with are worked out by hand from docs/MACHINE.md.
+//! Keyed messages through whole calls, over boards and by full beats, and tables that are refused. The beats were encoded
+//! by a script of their own, outside the emulator; what each job ends with is worked out by hand from docs/MACHINE.md.
 
 use crate::calls::{refuses, row};
 use std::test::Fail;
