@@ -6,24 +6,10 @@
 #![tactic(auto)]
 
 pub mod answer;
-#[cfg(test)]
-mod bag_tests;
-#[cfg(test)]
-mod board_tests;
-#[cfg(test)]
-mod fault_tests;
 pub mod history;
 pub mod kept;
-#[cfg(test)]
-mod mesh_tests;
 pub mod plain;
-#[cfg(test)]
-mod program_tests;
 pub mod report;
 pub mod status;
-#[cfg(test)]
-mod tests;
 pub mod top;
 pub mod words;
-#[cfg(test)]
-mod world_tests;

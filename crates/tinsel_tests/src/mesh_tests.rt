@@ -1,12 +1,12 @@
 //! Machines of several tiles. What each job ends with is worked out by hand.
 
-use crate::status::Status;
-use crate::tests::row;
-use crate::world_tests::{machine, makes};
+use crate::calls::row;
+use crate::machines::{machine, makes};
 use std::alloc::Global;
 use std::test::Fail;
 use tn_base::event::Event;
 use tn_base::ids::{PartId, ThreadId};
+use tn_run::status::Status;
 use tn_tile::deliver::Did;
 use tn_world::events::enabled;
 

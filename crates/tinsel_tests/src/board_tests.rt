@@ -1,9 +1,9 @@
 //! Machines of several boards, and messages by keys. What each job ends with is worked out by hand.
 
-use crate::status::Status;
-use crate::tests::row;
+use crate::calls::row;
 use std::alloc::Global;
 use std::test::Fail;
+use tn_run::status::Status;
 
 /// Thread 0 sends 1024 to the thread of the other board, which ends with it.
 const EAST: &[u8] = b"tinsel 1\nshape 2 1 1 1 1 1\ncode all\nf1402573\n00051e63\n500005b7\n\
@@ -12,7 +12,7 @@ const EAST: &[u8] = b"tinsel 1\nshape 2 1 1 1 1 1\ncode all\nf1402573\n00051e63\
 
 /// Thread 0 sends by key 2 to all three threads: to thread 1 with its key over the first word, to threads 1 and 2 and to
 /// itself with keys over the first half word, and to itself by the second beat.
-const KEYED: &[u8] = b"tinsel 1\nshape 1 1 1 1 1 3\nasm all\n\
+pub(crate) const KEYED: &[u8] = b"tinsel 1\nshape 1 1 1 1 1 3\nasm all\n\
     csrrs a0, HartId, x0\nli a4, 2\nli a5, 2\n\
     bnez a0, other\nli a1, 0x50000000\nli a2, 0x10000\n\
     sw a2, 0(a1)\ncsrrw x0, SendDest, a5\ncsrrw x0, Send, a5\n\

@@ -1,13 +1,13 @@
 //! The commands on texts, and jobs with assembly. The expected texts are worked out by hand from the manual of RISC-V.
 
-use super::{row, words_of};
-use crate::plain::plain_top;
-use crate::status::Status;
+use crate::calls::{row, words_of};
 use std::alloc::Global;
 use std::process::Abort;
 use std::test::Fail;
 use tn_io::clean::{CleanSink, CleanSource};
 use tn_io::memory::{MemSink, MemSource};
+use tn_run::plain::plain_top;
+use tn_run::status::Status;
 
 /// A command on an input ends with this status and writes this text.
 fn plain_row<H: Abort>(

@@ -1,10 +1,10 @@
 //! Programs, assembled with GNU as 2.40 (`-march=rv32im_zicsr`; control registers by number). The values that they
 //! end with were computed by a script of their own, outside the emulator.
 
-use crate::status::Status;
-use crate::tests::row;
+use crate::calls::row;
 use std::alloc::Global;
 use std::test::Fail;
+use tn_run::status::Status;
 
 /// The factorial of 12.
 const FACTORIAL: &[u8] =

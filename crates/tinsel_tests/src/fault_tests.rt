@@ -1,26 +1,9 @@
 //! Texts that are no job, and jobs that make no machine. Each line and kind was worked out by hand from
 //! docs/MACHINE.md.
 
-use crate::status::Status;
-use crate::tests::{TWO, row};
-use std::alloc::Global;
-use std::process::Abort;
-use std::sync::Wait;
+use crate::calls::{TWO, refuses, row};
 use std::test::Fail;
-use std::thread::Threads;
-
-/// `run` on each text refuses it so.
-fn refuses<H: Threads + Wait + Sync + Abort>(
-    rt: &H,
-    alloc: Global,
-    texts: &[(&[u8], &[u8])],
-) -> Result<(), Fail> {
-    for (input, text) in texts {
-        let kept = row(rt, alloc, *input, Status::Refused, *text)?;
-        assert!(rt; kept.start().is_none());
-    }
-    Ok(())
-}
+use tn_run::status::Status;
 
 /// The first line.
 #[test]

@@ -1,60 +1,22 @@
 //! Events on the machines of jobs, one by one. What each makes is worked out by hand from docs/MACHINE.md.
 
-use job_load::load::load;
-use job_text::read::read_job;
-use std::alloc::Global;
-use std::process::Abort;
+use crate::calls::TWO;
+use crate::machines::{machine, makes};
 use std::test::Fail;
 use tn_base::event::{Event, Outcome, Trap};
 use tn_base::ids::{PartId, ThreadId};
-use tn_link::plain::PlainLink;
-use tn_text::lines::law_line_count;
 use tn_tile::deliver::Did;
-use tn_world::events::{enabled, final_of, rest_outcome, step};
+use tn_world::events::{enabled, final_of, rest_outcome};
 use tn_world::play::play;
-use tn_world::world::World;
 
 /// The first and the second thread of a tile.
 const FIRST: ThreadId = ThreadId(0);
 
 const SECOND: ThreadId = ThreadId(1);
 
-/// Two threads that end with their addresses, each in two steps.
-const TWO: &[u8] = b"tinsel 1\nshape 1 1 1 1 1 2\ncode all\nf1402573\n80b51073\nend\n";
-
 /// A thread that sends a message to itself, and traps.
 const SENDER: &[u8] =
     b"tinsel 1\nshape 1 1 1 1 1 1\nturn 3\ncode all\n80301073\n80601073\n00000000\nend\n";
-
-/// The machine of a job at its start.
-pub(crate) fn machine<H: Abort>(
-    rt: &H,
-    alloc: Global,
-    text: &[u8],
-) -> Result<World<PlainLink>, Fail> {
-    law_line_count(text);
-    if text.len() > 1000 {
-        panic!(rt; "the job is too long");
-    }
-    let Ok(job) = read_job(alloc, text) else {
-        panic!(rt; "the job is not read");
-    };
-    let Ok(world) = load(alloc, &job) else {
-        panic!(rt; "the job is not loaded");
-    };
-    Ok(world)
-}
-
-/// The event is enabled or not, as it should be.
-pub(crate) fn makes<H: Abort>(
-    rt: &H,
-    world: &mut World<PlainLink>,
-    event: Event,
-    did: Did,
-) -> Result<(), Fail> {
-    assert_eq!(rt; step(world, &event)?, did);
-    Ok(())
-}
 
 #[test]
 fn events_one_by_one(rt: HostRuntime) -> Result<(), Fail> {

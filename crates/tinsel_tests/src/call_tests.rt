@@ -1,59 +1,16 @@
 //! Whole calls over sources and sinks in memory. The expected texts are worked out by hand from docs/MACHINE.md.
 
-mod texts;
-
-use crate::kept::Kept;
-use crate::status::Status;
-use crate::top::run_top;
+use crate::calls::{TWO, row, words_of};
 use std::alloc::Global;
-use std::process::Abort;
-use std::sync::Wait;
 use std::test::Fail;
-use std::thread::Threads;
 use tn_base::event::Event;
 use tn_base::ids::ThreadId;
 use tn_io::clean::{CleanSink, CleanSource};
 use tn_io::gate::OpenGate;
 use tn_io::memory::{MemSink, MemSource};
-
-/// Two threads that end with their addresses.
-pub(crate) const TWO: &[u8] = b"tinsel 1\nshape 1 1 1 1 1 2\ncode all\nf1402573\n80b51073\nend\n";
-
-/// The words of a call.
-fn words_of(alloc: Global, texts: &[&str]) -> Result<Vec<String>, Fail> {
-    let mut words = Vec::new(alloc);
-    for text in texts {
-        words.push(String::from_str(alloc, *text)?)?;
-    }
-    Ok(words)
-}
-
-/// `run` on an input ends with this status and writes this text.
-pub(crate) fn row<H: Threads + Wait + Sync + Abort>(
-    rt: &H,
-    alloc: Global,
-    input: &[u8],
-    status: Status,
-    text: &[u8],
-) -> Result<Kept, Fail> {
-    let mut source = CleanSource::of(Vec::from_slice(alloc, input)?);
-    let mut sink = CleanSink::of(alloc);
-    sink.reserve(2000)?;
-    let mut kept = Kept::new(alloc);
-    let words = words_of(alloc, &["run"])?;
-    let got = run_top(
-        rt,
-        alloc,
-        words.as_slice(),
-        &mut source,
-        &mut sink,
-        &OpenGate,
-        &mut kept,
-    );
-    assert_eq!(rt; got, status);
-    assert_eq!(rt; sink.written(), text);
-    Ok(kept)
-}
+use tn_run::kept::Kept;
+use tn_run::status::Status;
+use tn_run::top::run_top;
 
 #[test]
 fn runs(rt: HostRuntime) -> Result<(), Fail> {
