@@ -1,9 +1,8 @@
 //! The letters of packets with keys.
 
-ghost use Rattle.std.specs.Prelude.{◌≡◌, ◌≤◌, ◌<◌, ◌+◌, ◌++◌, [], IfOk, IfSome, IsTrue, MatchOption, OnOk, drop, length, map, option_and_then, option_copied, slice_get, take};
-ghost use Rattle.byteorder.specs.Endian.{little_bytes};
+ghost use Rattle.std.specs.Prelude.{◌≡◌, ◌≤◌, ◌<◌, ◌+◌, ◌++◌, [], IfOk, IsTrue, MatchOption, OnOk, drop, length, map, option_and_then, option_copied, slice_get, take};
 ghost use Rattle.tn_base.specs.Bytes.{fronted};
-ghost use Rattle.tn_keys.specs.Copies.{masked_copies, neighbour, tile_address};
+ghost use Rattle.tn_keys.specs.Copies.{masked_copies};
 ghost use Rattle.tn_keys.specs.Reach.{reach_by, walk};
 ghost use Rattle.tn_keys.specs.Tables.{joined, records_of, table_of};
 ghost use Rattle.tn_rows.specs.PartView.{router_of};
@@ -13,7 +12,6 @@ ghost use Rattle.tn_bag.specs.Tiles.{reach_of, tables_of};
 ghost use Rattle.tn_base.specs.Message.{has_packet};
 
 use crate::letters::plain_letters;
-use byteorder::{ByteOrder, LittleEndian};
 use std::alloc::{AllocError, Global};
 use tn_base::ids::{Board, PartId};
 use tn_base::mask::Mask;
@@ -21,6 +19,8 @@ use tn_base::message::{Dest, HOST, Letter, Packet};
 use tn_base::part::Kind;
 use tn_base::shape::Shape;
 use tn_keys::key::Key;
+use tn_keys::local::{bytes_2, bytes_4, bytes_8, tile_address};
+use tn_keys::onward::neighbour;
 use tn_keys::record::RouteRec;
 use tn_link::link::Link;
 use tn_router::router::Router;
@@ -87,72 +87,6 @@ fn key_records<L: Link>(
         return Ok(Vec::new(alloc));
     }
     joined_beats(alloc, router, first, first + count)
-}
-
-/// The neighbour of a board, which need not be one of the machine.
-pub(crate) fn neighbour(shape: &Shape, dir: u8, board: Board) -> Option<Board>
-    requires x { board.x < 4 }
-    requires y { board.y < 4 }
-    ensures value { result ≡ neighbour shape.now dir board }
-    ensures x { IfSome result (λ b. b.x < 4) }
-    ensures y { IfSome result (λ b. b.y < 4) }
-{
-    let n = shape.numbers();
-    match dir {
-        0 if board.x + 1 < n.boards_x => Some(Board {
-            x: board.x + 1,
-            y: board.y,
-        }),
-        1 if board.x > 0 => Some(Board {
-            x: board.x - 1,
-            y: board.y,
-        }),
-        2 if board.y + 1 < n.boards_y => Some(Board {
-            x: board.x,
-            y: board.y + 1,
-        }),
-        0..=2 => None,
-        _ if board.y > 0 => Some(Board {
-            x: board.x,
-            y: board.y - 1,
-        }),
-        _ => None,
-    }
-}
-
-/// The bytes of a local key, the lowest first.
-fn bytes_2(key: u16) -> [u8; 2]
-    ensures { result ≡ little_bytes 2 key }
-{
-    let mut bytes = [0; 2];
-    LittleEndian::write_u16(&mut bytes, key);
-    bytes
-}
-
-fn bytes_4(key: u32) -> [u8; 4]
-    ensures { result ≡ little_bytes 4 key }
-{
-    let mut bytes = [0; 4];
-    LittleEndian::write_u32(&mut bytes, key);
-    bytes
-}
-
-fn bytes_8(key: u64) -> [u8; 8]
-    ensures { result ≡ little_bytes 8 key }
-{
-    let mut bytes = [0; 8];
-    LittleEndian::write_u64(&mut bytes, key);
-    bytes
-}
-
-/// The address of a tile of a board.
-fn tile_address(board: Board, tile: u8) -> u32
-    requires x { board.x < 4 }
-    requires y { board.y < 4 }
-    ensures value { result ≡ tile_address board tile }
-    ensures small { result < 65536 }
-{
-    board.y * 4096 + board.x * 1024 + u32::from(tile) * 64
 }
 
 /// What a packet is for one receiver, its first bytes replaced by a local key.

@@ -12,7 +12,7 @@ ghost use Rattle.tn_bag.specs.Standing.{leaving_by, out_standing, process_standi
 ghost use Rattle.tn_bag.specs.Tiles.{reach_of};
 ghost use Rattle.std.specs.Prelude.{ℕ, List};
 
-use crate::keyed::{joined_beats, neighbour, push_key, push_masked, push_records};
+use crate::keyed::{joined_beats, push_key, push_masked, push_records};
 use crate::letters::letter_for;
 use crate::place::Place;
 use crate::places::push_letters;
@@ -22,6 +22,7 @@ use tn_base::message::{Dest, HOST, Letter, Packet};
 use tn_base::port::Port;
 use tn_base::shape::Shape;
 use tn_keys::key::Key;
+use tn_keys::onward::neighbour;
 use tn_keys::record::RouteRec;
 use tn_link::link::Link;
 use tn_router::router::Router;

@@ -8,6 +8,7 @@ pub mod beat;
 pub mod fault;
 pub mod key;
 pub mod laws;
+pub mod local;
 pub mod onward;
 mod read;
 pub mod record;

@@ -18,9 +18,12 @@ pub struct Onward {
 
 /// The neighbour of a board: 0 East, 1 West, 2 South, any other number North. None where the machine ends there.
 pub fn neighbour(shape: &Shape, dir: u8, board: Board) -> Option<Board>
-    requires { HasBoard shape.now board }
+    requires x { board.x < 4 }
+    requires y { board.y < 4 }
     ensures value { result ≡ neighbour shape.now dir board }
-    ensures there { IfSome result (λ b. HasBoard shape.now b) }
+    ensures x { IfSome result (λ b. b.x < 4) }
+    ensures y { IfSome result (λ b. b.y < 4) }
+    ensures there { HasBoard shape.now board → IfSome result (λ b. HasBoard shape.now b) }
 {
     let n = shape.numbers();
     match dir {
@@ -52,6 +55,7 @@ impl RouteRec {
         ensures value { result ≡ onward shape.now board self }
         ensures there { IfSome result (λ o. HasBoard shape.now o.board) }
     {
+        let _numbers = shape.numbers();
         match self {
             RouteRec::Rr { dir, key } => {
                 let board = neighbour(shape, dir, board)?;

@@ -1,7 +1,6 @@
 //! What one Route makes of a packet in process.
 
 ghost use Rattle.std.specs.Prelude.{◌≡◌, ◌+◌, ◌≤◌, ◌<◌, ◌^◌, false, IsTrue, length};
-ghost use Rattle.byteorder.specs.Endian.{little_bytes};
 ghost use Rattle.tn_base.specs.Bytes.{fronted};
 ghost use Rattle.tn_base.specs.declared.message.Dest.TheVariants as dest;
 ghost use Rattle.tn_keys.specs.Copies.{tile_address};
@@ -13,7 +12,6 @@ ghost use Rattle.tn_router.specs.Rows.{told};
 
 use crate::places::{entered, is_bad, next_record, next_work, with_key};
 use crate::work::Work;
-use byteorder::{ByteOrder, LittleEndian};
 use tn_base::ids::{Board, ThreadId, TileId};
 use tn_base::mask::Mask;
 use tn_base::message::{Dest, Packet};
@@ -21,6 +19,7 @@ use tn_base::port::Port;
 use tn_base::shape::Shape;
 use tn_keys::beat::Beat;
 use tn_keys::key::Key;
+use tn_keys::local::{bytes_2, bytes_4, bytes_8, tile_address};
 use tn_keys::onward::neighbour;
 use tn_keys::record::RouteRec;
 
@@ -71,6 +70,7 @@ pub(crate) fn has_side(shape: &Shape, board: Board, side: Port) -> bool
     requires { HasBoard shape.now board }
     ensures { result ≡ has_side shape.now board side }
 {
+    let _numbers = shape.numbers();
     match side {
         Port::East => neighbour(shape, 0, board).is_some(),
         Port::West => neighbour(shape, 1, board).is_some(),
@@ -94,16 +94,6 @@ fn way_of(dir: u8) -> Port
     }
 }
 
-/// The address of a tile of a board.
-fn tile_address(board: Board, tile: u8) -> u32
-    requires x { board.x < 4 }
-    requires y { board.y < 4 }
-    ensures value { result ≡ tile_address board tile }
-    ensures small { result < 2 ^ 16 }
-{
-    board.y * 4096 + board.x * 1024 + u32::from(tile) * 64
-}
-
 /// A thread of a tile of a board.
 fn thread_at(board: Board, tile: u8, thread: u8) -> Dest
     requires x { board.x < 4 }
@@ -124,33 +114,6 @@ fn fronted(p: &Packet, to: Dest, front: &[u8]) -> Packet
         dest: to,
         bytes: p.bytes.with_front(front),
     }
-}
-
-/// The local key of an MRM as bytes, the lowest first.
-fn bytes_2(key: u16) -> [u8; 2]
-    ensures { result ≡ little_bytes 2 key }
-{
-    let mut bytes = [0; 2];
-    LittleEndian::write_u16(&mut bytes, key);
-    bytes
-}
-
-/// The local key of a URM1 as bytes, the lowest first.
-fn bytes_4(key: u32) -> [u8; 4]
-    ensures { result ≡ little_bytes 4 key }
-{
-    let mut bytes = [0; 4];
-    LittleEndian::write_u32(&mut bytes, key);
-    bytes
-}
-
-/// The local key of a URM2 as bytes, the lowest first.
-fn bytes_8(key: u64) -> [u8; 8]
-    ensures { result ≡ little_bytes 8 key }
-{
-    let mut bytes = [0; 8];
-    LittleEndian::write_u64(&mut bytes, key);
-    bytes
 }
 
 /// A copy for a way out, if it is a packet of the machine.
