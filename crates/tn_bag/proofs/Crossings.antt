@@ -26,6 +26,7 @@ use Rattle.tn_tile.specs.TileView.{TileView}
 use Rattle.tn_tile.proofs.Packets.{departs}
 use Rattle.tn_tile.proofs.Shaped.{notes_shaped, transit_shaped}
 use Rattle.tn_tile.proofs.Steps.{taken}
+use Rattle.tn_rows.proofs.Meeting.{mapped, met_rows}
 use Rattle.tn_rows.specs.Events.{Met, met_by, met_with, with_both, with_part}
 use Rattle.tn_rows.specs.PartView.{PartView, TileV, LinkV}
 use Rattle.tn_rows.specs.Places.{link_way}
@@ -44,17 +45,6 @@ use Rattle.tn_bag.proofs.Simulate.{Reached}
 use Rattle.tn_bag.proofs.Weights.{buffers_w, crossing_w, link_w, packet_w}
 
 -- ---- rows of both parts
-
-mapped : {A B : Type 0} (f : A → B) (o : Option A) (y : B) → option_map f o ≡ Some y → (x : A) × (o ≡ Some x) × (f x ≡ y)
-mapped f None y e = cc e
-mapped f (Some x) y e = (x, refl, ap (λ o. unwrap_or o y) e)
-
-met_rows : (a b : Option PartView) (m : Met) → met_by a b ≡ Some m → (a ≡ Some m.low) × (b ≡ Some m.high)
-met_rows (Some low) (Some high) m e =
-    let is : record { low = low; high = high } ≡ m = ap (λ (o : Option Met). unwrap_or o m) e in
-    (ap (λ (x : Met). Some x.low) is, ap (λ (x : Met). Some x.high) is)
-met_rows (Some low) None m e = cc e
-met_rows None b m e = cc e
 
 -- what the rows of a tile and a link gave
 pub record Both (t : Option TileView) (l : Option LinkView) (m : Met) : Type 0 where

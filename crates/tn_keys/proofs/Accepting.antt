@@ -17,7 +17,7 @@ use Rattle.tn_keys.specs.Tables.{HasBoard, Table, beats_in, board_place, joined,
 use Rattle.tn_keys.proofs.Reaching.{reach_more, reach_walk, records_le, sum_joined, walk_up}
 use Rattle.tn_keys.proofs.Widths.{width}
 
-board_back : (n : ShapeNumbers) (b : Board) → HasBoard n b → board_at n (board_place n b) ≡ b
+pub board_back : (n : ShapeNumbers) (b : Board) → HasBoard n b → board_at n (board_place n b) ≡ b
 board_back n b h =
     let x : (b.y * n.boards_x + b.x) % n.boards_x ≡ b.x = mod-mul-add b.y n.boards_x b.x h.0 in
     let y : (b.y * n.boards_x + b.x) / n.boards_x ≡ b.y = div-mul-add b.y n.boards_x b.x h.0 in
@@ -27,7 +27,7 @@ board_back n b h =
         made : ℕ → ℕ → Board
         made x y = record { x = x; y = y }
 
-place_below : (n : ShapeNumbers) (b : Board) → HasBoard n b → board_place n b < board_count n
+pub place_below : (n : ShapeNumbers) (b : Board) → HasBoard n b → board_place n b < board_count n
 place_below n b h = mul-add-lt b.y n.boards_x b.x n.boards_y h.1 h.0
 
 unless_none : (there : Bool) (f : TableFault) (others : Option TableFault) → unless there f others ≡ None → (there ≡ false) × (others ≡ None)

@@ -13,19 +13,6 @@ use Rattle.tn_keys.specs.declared.record.RouteRec.TheVariants.{Urm1, Urm2, Rr, M
 use Rattle.tn_keys.specs.Copies.{neighbour, onto, onward}
 use Rattle.tn_keys.specs.Tables.{HasBoard, board_place}
 
-pub board_back : (n : ShapeNumbers) (b : Board) → HasBoard n b → board_at n (board_place n b) ≡ b
-board_back n b h =
-    let x : (b.y * n.boards_x + b.x) % n.boards_x ≡ b.x = mod-mul-add b.y n.boards_x b.x h.0 in
-    let y : (b.y * n.boards_x + b.x) / n.boards_x ≡ b.y = div-mul-add b.y n.boards_x b.x h.0 in
-    both b _ _ x y where
-      both : (b : Board) (x y : ℕ) → x ≡ b.x → y ≡ b.y → record { x = x; y = y } ≡ b
-      both b x y p q = ap (λ z. made z y) p ∙ ap (made b.x) q where
-        made : ℕ → ℕ → Board
-        made x y = record { x = x; y = y }
-
-pub place_below : (n : ShapeNumbers) (b : Board) → HasBoard n b → board_place n b < board_count n
-place_below n b h = mul-add-lt b.y n.boards_x b.x n.boards_y h.1 h.0
-
 pub has_board_at : (n : ShapeNumbers) (i : ℕ) → 1 ≤ n.boards_x → i < board_count n → HasBoard n (board_at n i)
 has_board_at n i some l = (mod_below i n.boards_x some, div_below i n.boards_x n.boards_y some (turned n.boards_x n.boards_y i l)) where
   turned : (a b i : ℕ) → i < a * b → i < b * a

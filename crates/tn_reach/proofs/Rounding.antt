@@ -16,15 +16,9 @@ use Rattle.tn_keys.specs.Copies.{onward}
 use Rattle.tn_keys.specs.Tables.{HasBoard, Table, beats_in, board_place, table_at, table_of}
 use Rattle.tn_reach.specs.declared.measure.Measure.{Measure}
 use Rattle.tn_reach.specs.Marks.{First, Marked, Next, capped, first_mark, last_of, mark, marks_beyond, next_mark, own_of}
-use Rattle.tn_reach.proofs.Boards.{board_back, has_board_at, onward_has, place_below}
-
-pub gathered-zero : (last own : RouteRec → ℕ) (n : ShapeNumbers) (ts : List Table) (b : Board) (r : RouteRec) → gathered last own zero n ts b r ≡ last r
-unfolding gathered
-gathered-zero last own n ts b r = refl
-
-pub gathered-suc : (last own : RouteRec → ℕ) (m : ℕ) (n : ShapeNumbers) (ts : List Table) (b : Board) (r : RouteRec) → gathered last own (suc m) n ts b r ≡ own r + beyond n ts (gathered last own m n ts) (onward n b r)
-unfolding gathered
-gathered-suc last own m n ts b r = refl
+use Rattle.tn_keys.proofs.Accepting.{board_back, place_below}
+use Rattle.tn_keys.proofs.Reaching.{gathered-suc, gathered-zero}
+use Rattle.tn_reach.proofs.Boards.{has_board_at, onward_has}
 
 map_same : {A B : Type 0} (f g : A → B) (xs : List A) → ((x : A) → f x ≡ g x) → map f xs ≡ map g xs
 map_same f g [] e = refl
