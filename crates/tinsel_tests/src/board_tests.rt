@@ -97,9 +97,9 @@ fn boards(rt: HostRuntime) -> Result<(), Fail> {
 fn corners(rt: HostRuntime) -> Result<(), Fail> {
     let alloc: Global = rt.alloc();
     let mut text = Vec::new(alloc);
-    for board in [0, 1024, 4096, 5120] {
-        for tile in 0..16 {
-            let thread = board + 64 * tile;
+    for board in [0u32, 1024, 4096, 5120] {
+        for tile in 0..16u32 {
+            let thread = board.wrapping_add(tile.wrapping_mul(64));
             let value = match thread {
                 0 => 8,
                 6080 => 7,
