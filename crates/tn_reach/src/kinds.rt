@@ -51,6 +51,7 @@ fn is_off_machine(shape: &Shape, board: Board, route: RouteRec) -> bool
     requires { HasBoard shape.now board }
     ensures { result ≡ off_machine shape.now board route }
 {
+    let _numbers = shape.numbers();
     match route {
         RouteRec::Urm1 { tile, .. } => !has_place(shape, tile),
         RouteRec::Urm2 { tile, .. } => !has_place(shape, tile),
