@@ -28,7 +28,7 @@ use Rattle.tn_tile.proofs.Shaped.{notes_shaped, transit_shaped}
 use Rattle.tn_tile.proofs.Steps.{taken}
 use Rattle.tn_rows.proofs.Meeting.{mapped, met_rows}
 use Rattle.tn_rows.specs.Events.{Met, met_by, met_with, with_both, with_part}
-use Rattle.tn_rows.specs.PartView.{PartView, TileV, LinkV}
+use Rattle.tn_rows.specs.PartView.{TileV, LinkV}
 use Rattle.tn_rows.specs.Places.{link_way}
 use Rattle.tn_rows.specs.SamePacket.{is_packet}
 use Rattle.tn_rows.specs.WorldView.{WorldView}

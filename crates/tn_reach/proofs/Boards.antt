@@ -1,17 +1,17 @@
 -- Boards and their places.
-use Rattle.std.proofs.Common.{ℕ, ◌≡◌, ◌≤◌, ◌<◌, ◌+◌, ◌-◌, ◌*◌, ◌/◌, ◌%◌, Bool, true, false, cond, ltb, eqb, refl, ap, sym, ◌∙◌, arith, subst}
+use Rattle.std.proofs.Common.{ℕ, ◌≡◌, ◌≤◌, ◌<◌, ◌+◌, ◌-◌, ◌*◌, Bool, true, false, cond, ltb, eqb, refl, ap, sym, ◌∙◌, arith, subst}
 use Rattle.std.specs.declared.option.Option.{Option}
 use Rattle.std.specs.declared.option.Option.TheVariants.{Some, None}
 use Rattle.std.specs.Option.{IfSome}
 use Rattle.std.proofs.lemmas.Bool.{ltb-true}
-use Rattle.std.proofs.lemmas.Nat.{div-mul-add, div_below, mod-mul-add, mod_below, mul-add-lt}
+use Rattle.std.proofs.lemmas.Nat.{div_below, mod_below}
 use Rattle.tn_base.specs.declared.ids.Board.{Board}
 use Rattle.tn_base.specs.declared.shape.ShapeNumbers.{ShapeNumbers}
 use Rattle.tn_base.specs.Parts.{board_at, board_count}
 use Rattle.tn_keys.specs.declared.record.RouteRec.{RouteRec}
 use Rattle.tn_keys.specs.declared.record.RouteRec.TheVariants.{Urm1, Urm2, Rr, Mrm, Ind}
 use Rattle.tn_keys.specs.Copies.{neighbour, onto, onward}
-use Rattle.tn_keys.specs.Tables.{HasBoard, board_place}
+use Rattle.tn_keys.specs.Tables.{HasBoard}
 
 pub has_board_at : (n : ShapeNumbers) (i : ℕ) → 1 ≤ n.boards_x → i < board_count n → HasBoard n (board_at n i)
 has_board_at n i some l = (mod_below i n.boards_x some, div_below i n.boards_x n.boards_y some (turned n.boards_x n.boards_y i l)) where

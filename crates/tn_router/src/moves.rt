@@ -1,10 +1,10 @@
 //! What one Route makes of a packet in process.
 
-ghost use Rattle.std.specs.Prelude.{◌≡◌, ◌+◌, ◌≤◌, ◌<◌, ◌^◌, false, IsTrue, length};
+ghost use Rattle.std.specs.Prelude.{◌≡◌, ◌+◌, ◌≤◌, ◌<◌, false, IsTrue, length};
 ghost use Rattle.tn_base.specs.Bytes.{fronted};
 ghost use Rattle.tn_base.specs.declared.message.Dest.TheVariants as dest;
 ghost use Rattle.tn_keys.specs.Copies.{tile_address};
-ghost use Rattle.tn_keys.specs.Tables.{HasBoard, is_bad_key};
+ghost use Rattle.tn_keys.specs.Tables.{HasBoard};
 ghost use Rattle.tn_router.specs.Kept.{is_placed, is_record_of};
 ghost use Rattle.tn_router.specs.Moves.{behind, copy_by, key_move, move_of, sent_if, way_of, whole_move};
 ghost use Rattle.tn_router.specs.Places.{has_side};
