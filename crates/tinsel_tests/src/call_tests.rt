@@ -1,6 +1,7 @@
 //! Whole calls over sources and sinks in memory. The expected texts are worked out by hand from docs/MACHINE.md.
 
-use crate::calls::{TWO, row, words_of};
+use crate::calls::{row, words_of};
+use machine_tests::jobs::TWO;
 use std::alloc::Global;
 use std::test::Fail;
 use tn_base::event::Event;

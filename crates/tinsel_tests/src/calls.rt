@@ -11,9 +11,6 @@ use tn_run::kept::Kept;
 use tn_run::status::Status;
 use tn_run::top::run_top;
 
-/// Two threads that end with their addresses, each in two steps.
-pub(crate) const TWO: &[u8] = b"tinsel 1\nshape 1 1 1 1 1 2\ncode all\nf1402573\n80b51073\nend\n";
-
 /// The words of a call.
 pub(crate) fn words_of(alloc: Global, texts: &[&str]) -> Result<Vec<String>, Fail> {
     let mut words = Vec::new(alloc);

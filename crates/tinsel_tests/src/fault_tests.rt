@@ -1,7 +1,7 @@
 //! Texts that are no job, and jobs that make no machine. Each line and kind was worked out by hand from
 //! docs/MACHINE.md.
 
-use crate::calls::{TWO, refuses, row};
+use crate::calls::{refuses, row};
 use std::test::Fail;
 use tn_run::status::Status;
 

@@ -1,11 +1,8 @@
-//! Tests that cross crates: whole calls of the program, the machines of jobs event by event, and what their runs mean.
+//! Tests of whole calls of the program: jobs of each kind with what they print, faults, and the commands on texts.
 //!
-//! Only tests stand here. Where they start: `calls::row` makes a whole call on a job, `machines::machine` gives a job's
-//! machine at its start.
+//! Only tests stand here. `calls::row` makes a whole call on a job; tests of machines event by event stand in `machine_tests`.
 #![tactic(auto)]
 
-#[cfg(test)]
-mod bag_tests;
 #[cfg(test)]
 mod board_tests;
 #[cfg(test)]
@@ -15,8 +12,6 @@ mod calls;
 #[cfg(test)]
 mod fault_tests;
 #[cfg(test)]
-mod machines;
-#[cfg(test)]
 mod mesh_tests;
 #[cfg(test)]
 mod program_tests;
@@ -24,5 +19,3 @@ mod program_tests;
 mod table_tests;
 #[cfg(test)]
 mod text_tests;
-#[cfg(test)]
-mod world_tests;

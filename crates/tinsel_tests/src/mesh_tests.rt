@@ -1,19 +1,10 @@
 //! Machines of several tiles. What each job ends with is worked out by hand.
 
 use crate::calls::row;
-use crate::machines::{machine, makes};
+use machine_tests::jobs::EAST;
 use std::alloc::Global;
 use std::test::Fail;
-use tn_base::event::Event;
-use tn_base::ids::{PartId, ThreadId};
 use tn_run::status::Status;
-use tn_tile::deliver::Did;
-use tn_world::events::enabled;
-
-/// Thread 0 sends 64 to the thread of the other tile, which ends with it.
-const EAST: &[u8] = b"tinsel 1\nshape 1 1 2 1 1 1\ncode all\nf1402573\n00051e63\n500005b7\n\
-    04000613\n00c5a023\n80361073\n80601073\n80b01073\n00200693\n80969073\n807025f3\n\
-    0005a503\n80b51073\nend\n";
 
 /// Each of sixteen tiles sends its address to the first, which sums them, over links of one packet.
 const ALL_TO_ONE: &[u8] = b"tinsel 1\nshape 1 1 4 4 1 1\nlink 1\nasm all\n\
@@ -76,76 +67,6 @@ fn meshes(rt: HostRuntime) -> Result<(), Fail> {
     ];
     for (input, text) in rows {
         row(&rt, alloc, input, Status::Done, text)?;
-    }
-    Ok(())
-}
-
-/// The parts of the machine of two tiles: the tiles, and the links East and Up from the first.
-const FIRST: PartId = PartId(1);
-
-const SECOND: PartId = PartId(2);
-
-const EASTWARD: PartId = PartId(4);
-
-const UPWARD: PartId = PartId(5);
-
-/// The thread that sends and the one that waits, and the events of the packet on its way.
-const SENDER: ThreadId = ThreadId(0);
-
-const RECEIVER: ThreadId = ThreadId(64);
-
-const DEPARTS: Event = Event::Depart(FIRST, EASTWARD);
-
-const ARRIVES: Event = Event::Arrive(EASTWARD, SECOND);
-
-/// Events in turn, each with whether it happens and the first event that is enabled after it.
-const STEPS: [(Event, Did, Option<Event>); 17] = [
-    (
-        Event::Turn(SENDER, 8),
-        Did::Moved,
-        Some(Event::Turn(RECEIVER, 1)),
-    ),
-    (
-        Event::Turn(RECEIVER, 5),
-        Did::Nothing,
-        Some(Event::Turn(RECEIVER, 1)),
-    ),
-    (
-        Event::Turn(RECEIVER, 4),
-        Did::Moved,
-        Some(Event::Deliver(SENDER)),
-    ),
-    (
-        Event::Depart(FIRST, EASTWARD),
-        Did::Nothing,
-        Some(Event::Deliver(SENDER)),
-    ),
-    (Event::Deliver(SENDER), Did::Moved, Some(DEPARTS)),
-    // Another link, another part, a link that is no link, and a link that is empty.
-    (Event::Depart(FIRST, UPWARD), Did::Nothing, Some(DEPARTS)),
-    (Event::Depart(SECOND, EASTWARD), Did::Nothing, Some(DEPARTS)),
-    (Event::Depart(FIRST, SECOND), Did::Nothing, Some(DEPARTS)),
-    (
-        Event::Depart(FIRST, PartId(99)),
-        Did::Nothing,
-        Some(DEPARTS),
-    ),
-    (ARRIVES, Did::Nothing, Some(DEPARTS)),
-    (DEPARTS, Did::Moved, Some(ARRIVES)),
-    (DEPARTS, Did::Nothing, Some(ARRIVES)),
-    (Event::Arrive(EASTWARD, FIRST), Did::Nothing, Some(ARRIVES)),
-    (Event::Arrive(UPWARD, SECOND), Did::Nothing, Some(ARRIVES)),
-    (ARRIVES, Did::Moved, Some(Event::Turn(RECEIVER, 1))),
-    (ARRIVES, Did::Nothing, Some(Event::Turn(RECEIVER, 1))),
-    (Event::Turn(RECEIVER, 4), Did::Moved, None),
-];
-
-#[test]
-fn a_packet_event_by_event(rt: HostRuntime) -> Result<(), Fail> {
-    let mut world = machine(&rt, rt.alloc(), EAST)?;
-    for (event, did, first) in STEPS {
-        makes(&rt, &mut world, event, did)?;
-        assert_eq!(rt; enabled(&world), first);
     }
     Ok(())
 }

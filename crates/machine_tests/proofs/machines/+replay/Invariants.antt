@@ -1,5 +1,5 @@
 use Rattle.std.proofs.Common.{length}
-use Rattle.tinsel_tests.proofs.machines.+replay.Given as goal
+use Rattle.machine_tests.proofs.machines.+replay.Given as goal
 
 abbrev pub decreases-replay : goal.decreases-replay
 decreases-replay l = length l.events.now

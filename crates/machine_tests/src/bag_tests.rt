@@ -1,7 +1,7 @@
 //! Letters in their places, and the steps of the bag machine that runs spell. The lists are worked out by hand from
 //! the programs.
 
-use crate::board_tests::KEYED;
+use crate::jobs::{EAST, KEYED};
 use crate::machines::{machine, makes, replay};
 use std::alloc::Global;
 use std::process::Abort;
@@ -29,10 +29,6 @@ const ECHO: &[u8] =
 /// A thread sends itself an empty message, and ends some steps later without it.
 const LEFT: &[u8] = b"tinsel 1\nshape 1 1 1 1 1 1\nturn 2\ncode all\n80301073\n80601073\n00000013\n\
     00000013\n80b01073\nend\n";
-
-/// Thread 0 sends 64 to the thread of the other tile.
-const EAST: &[u8] = b"tinsel 1\nshape 1 1 2 1 1 1\ncode all\nf1402573\n00051e63\n500005b7\n\
-    04000613\n00c5a023\n80361073\n80601073\n80b01073\n80b01073\nend\n";
 
 /// What a thread sees: no message, and no send pending.
 const NOTHING: Seen = Seen {

@@ -1,6 +1,6 @@
 //! Events on the machines of jobs, one by one. What each makes is worked out by hand from docs/MACHINE.md.
 
-use crate::calls::TWO;
+use crate::jobs::TWO;
 use crate::machines::{machine, makes};
 use std::test::Fail;
 use tn_base::event::{Event, Outcome, Trap};
