@@ -2,6 +2,7 @@
 //! docs/MACHINE.md.
 
 use crate::calls::{refuses, row};
+use machine_tests::jobs::TWO;
 use std::test::Fail;
 use tn_run::status::Status;
 
