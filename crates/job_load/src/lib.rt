@@ -13,9 +13,5 @@ pub mod load;
 mod numbers;
 mod sections;
 mod start;
-#[cfg(test)]
-mod table_tests;
 mod tables;
-#[cfg(test)]
-mod tests;
 mod unbuilt;

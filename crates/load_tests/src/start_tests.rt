@@ -1,8 +1,8 @@
 //! Jobs whose machines and faults were worked out by hand.
 
-use crate::fault::{FaultName, LoadStop};
-use crate::load::load;
 use asm_text::fault::AsmKind;
+use job_load::fault::{FaultName, LoadStop};
+use job_load::load::load;
 use job_text::job::JobKind;
 use job_text::read::read_job;
 use std::alloc::Global;

@@ -1,7 +1,7 @@
 //! Jobs with tables, worked out by hand.
 
-use crate::fault::{FaultName, LoadStop};
-use crate::tests::{load_text, world_of};
+use crate::start_tests::{load_text, world_of};
+use job_load::fault::{FaultName, LoadStop};
 use std::alloc::{AllocError, Global};
 use std::test::Fail;
 use tn_base::ids::Board;
