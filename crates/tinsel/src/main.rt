@@ -11,6 +11,7 @@ use tn_run::kept::Kept;
 use tn_run::plain::plain_top;
 use tn_run::status::Status;
 use tn_run::top::run_top;
+use tn_run::words::is_for_machine;
 
 /// The words after the program's name.
 fn words_of(alloc: Global, args: Args) -> Result<Vec<String>, AllocError> {
@@ -19,14 +20,6 @@ fn words_of(alloc: Global, args: Args) -> Result<Vec<String>, AllocError> {
         words.push(word)?;
     }
     Ok(words)
-}
-
-/// Whether the first word names the command that runs a machine.
-fn is_for_machine(words: &[String]) -> bool {
-    match words {
-        [first, ..] => first.as_bytes() == b"run".as_slice(),
-        [] => false,
-    }
 }
 
 fn main(rt: HostRuntime) -> ExitCode {

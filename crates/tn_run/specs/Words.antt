@@ -16,3 +16,8 @@ command_named word = if bytes_eq word (codes "asm") then Some Asm else (if bytes
 abbrev pub command_of : List (List ℕ) → Option Command
 command_of (word ∷ []) = command_named word
 command_of _ = None
+
+-- the word `run` is the first
+abbrev pub is_for_machine : List (List ℕ) → Bool
+is_for_machine [] = false
+is_for_machine (first ∷ _) = bytes_eq first (codes "run")

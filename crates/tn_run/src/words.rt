@@ -1,6 +1,6 @@
 //! The words of a call.
 ghost use Rattle.std.specs.Prelude.{◌≡◌, map, string_bytes};
-ghost use Rattle.tn_run.specs.Words.{command_named, command_of, is_form};
+ghost use Rattle.tn_run.specs.Words.{command_named, command_of, is_for_machine, is_form};
 
 /// A command that reads a text and writes another.
 #[derive(Clone, Copy, PartialEq, Eq, Debug)]
@@ -40,5 +40,15 @@ pub fn is_run(words: &[String]) -> bool
     match words {
         [word] => word.as_bytes() == b"run".as_slice(),
         _ => false,
+    }
+}
+
+/// Whether the first word names a command that runs a machine, which `run_top` serves. `plain_top` serves all others.
+pub fn is_for_machine(words: &[String]) -> bool
+    ensures { result ≡ is_for_machine (map string_bytes words.now) }
+{
+    match words {
+        [first, ..] => first.as_bytes() == b"run".as_slice(),
+        [] => false,
     }
 }
