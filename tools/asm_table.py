@@ -1,11 +1,11 @@
 #!/usr/bin/env python3
-"""Writes the assembler's table of words that GNU as gives: crates/asm_build/src/tests/table.rt.
+"""Compares the case `words of GNU as` of crates/rows with the words that GNU as gives today.
 
-Run it at the top of the repository, and `rt fmt` in crates/asm_build afterwards. It needs riscv64-unknown-elf-as and
-riscv64-unknown-elf-objcopy (Debian's package binutils-riscv64-unknown-elf), and does nothing where they are missing.
-The tests use only the table as it is committed. Offsets are written for GNU as as `. + N`, since it takes a bare number
-for an address. Left out are the lines that GNU as spells in another way: `la`, `call`, `fence` with arguments, names of
-this machine's control registers, and `li` of a number whose low twelve bits are zero.
+Run it at the top of the repository. It needs riscv64-unknown-elf-as and riscv64-unknown-elf-objcopy (Debian's package
+binutils-riscv64-unknown-elf), and does nothing where they are missing. With --write it replaces the case by the lines
+below and their words. Offsets are written for GNU as as `. + N`, since it takes a bare number for an address. Left out are
+the lines that GNU as spells in another way: `la`, `call`, `fence` with arguments, names of this machine's control
+registers, and `li` of a number whose low twelve bits are zero.
 """
 
 import re
@@ -17,7 +17,8 @@ from pathlib import Path
 
 AS = "riscv64-unknown-elf-as"
 OBJCOPY = "riscv64-unknown-elf-objcopy"
-TABLE = Path("crates/asm_build/src/tests/table.rt")
+ROWS = Path("crates/rows")
+NAME = "words of GNU as"
 CALLING = (
     "zero ra sp gp tp t0 t1 t2 s0 fp s1 a0 a1 a2 a3 a4 a5 a6 a7 s2 s3 s4 s5 s6 s7 s8 s9 s10 s11 t3 t4 t5 t6"
 ).split()
@@ -91,28 +92,28 @@ def assemble(text):
     return [int.from_bytes(data[k : k + 4], "little") for k in range(0, len(data), 4)]
 
 
+def case(text):
+    """What comes before the case in a file of crates/rows, the case's head, its lines, and what comes behind."""
+    found = re.search(rf"(?m)^=== {NAME} \|.*\n((?:(?!=== |-- ).*\n)*)", text)
+    return text[: found.start()], found[0].splitlines()[0], found[1].splitlines(), text[found.end() :]
+
+
 def main():
     if not (shutil.which(AS) and shutil.which(OBJCOPY)):
-        print(f"asm_table: no {AS} here, so the table stays as it is")
-        return
-    version = subprocess.run([AS, "--version"], check=True, capture_output=True, text=True).stdout.splitlines()[0]
-    table = list(lines())
-    words = assemble("".join(gnu(line) + "\n" for line in table))
-    out = [
-        "//! Lines of assembly and the words that GNU as gives for them. Written by tools/asm_table.py.",
-        "//!",
-        f"//! {version}, with `-march=rv32im_zicsr -mabi=ilp32 -mno-relax`.",
-        "",
-        f"/// {len(table)} lines.",
-        "pub(crate) const TEXT: &[u8] = b\"\\",
-    ]
-    out += [f"    {line}\\n\\" for line in table]
-    out += ["    \";", "", "/// Their words in order.", f"pub(crate) const WORDS: [u32; {len(words)}] = ["]
-    out += [f"    0x{word:08x}," for word in words]
-    out += ["];", ""]
-    TABLE.parent.mkdir(parents=True, exist_ok=True)
-    TABLE.write_text("\n".join(out))
-    print(f"asm_table: {len(table)} lines, {len(words)} words")
+        print(f"asm_table: no {AS} here, so the case was not compared")
+        return 0
+    stdin, stdout = ((ROWS / name).read_text() for name in ("stdin", "stdout"))
+    table = list(lines()) if "--write" in sys.argv else case(stdin)[2]
+    words = [f"{word:08x}" for word in assemble("".join(gnu(line) + "\n" for line in table))]
+    if "--write" in sys.argv:
+        for name, text, new in ("stdin", stdin, table), ("stdout", stdout, words):
+            before, head, _, behind = case(text)
+            (ROWS / name).write_text(before + "".join(line + "\n" for line in [head, *new]) + behind)
+    elif case(stdout)[2] != words:
+        print("asm_table: GNU as gives other words")
+        return 1
+    print(f"asm_table: {len(table)} lines, {len(words)} words of GNU as")
+    return 0
 
 
 if __name__ == "__main__":

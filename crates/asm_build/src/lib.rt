@@ -14,5 +14,3 @@ pub mod labels;
 pub mod laws;
 pub mod show;
 mod spelling;
-#[cfg(test)]
-mod tests;

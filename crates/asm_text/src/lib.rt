@@ -12,5 +12,3 @@ pub mod places;
 pub mod read;
 pub mod registers;
 mod statement;
-#[cfg(test)]
-mod tests;

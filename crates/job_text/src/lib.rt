@@ -13,5 +13,3 @@ pub mod laws;
 pub mod print;
 pub mod read;
 mod seen;
-#[cfg(test)]
-mod tests;

@@ -1,5 +1,5 @@
-//! Cases. A line `=== NAME | WORDS` or `=== NAME | WORDS | FORM` begins one, and its input is the lines up to the next
-//! line that begins with `=== ` or `-- `. A line that begins with `-- ` says something to the reader of the file.
+//! Cases. A line `=== NAME | WORDS` or `=== NAME | WORDS | FORM` begins a case, and the case's input is the lines up to the next
+//! line that begins with `=== ` or `--`. Lines that begin with `--` are remarks to the reader of the file.
 
 use crate::fault::Fault;
 use crate::input::{push_escaped, push_plain};
@@ -48,9 +48,9 @@ fn head_of(line: &[u8]) -> Option<&[u8]> {
     }
 }
 
-/// Whether a line speaks to the reader of the file.
+/// Whether a line is a remark to the reader of the file.
 fn is_remark(line: &[u8]) -> bool {
-    matches!(line, [b'-', b'-', b' ', ..])
+    matches!(line, [b'-', b'-', ..])
 }
 
 /// The words of a command.

@@ -6,5 +6,3 @@
 
 mod arithmetic;
 pub mod exec;
-#[cfg(test)]
-mod tests;

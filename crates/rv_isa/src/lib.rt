@@ -9,6 +9,4 @@ mod find;
 pub mod instr;
 pub mod op;
 mod row;
-#[cfg(test)]
-mod tests;
 pub mod word;

@@ -8,5 +8,3 @@ pub mod laws;
 pub mod pool;
 mod queues;
 pub mod slot;
-#[cfg(test)]
-mod tests;

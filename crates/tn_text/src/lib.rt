@@ -10,6 +10,4 @@ pub mod lines;
 pub mod names;
 pub mod numbers;
 pub mod print;
-#[cfg(test)]
-mod tests;
 pub mod words;
