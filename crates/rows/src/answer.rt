@@ -36,7 +36,15 @@ fn call<H: Threads + Wait + Sync>(
     sink.reserve(ROOM)?;
     let status = if is_for_machine(words) {
         let mut kept = Kept::new(alloc);
-        run_top(rt, alloc, words, &mut source, &mut sink, &OpenGate, &mut kept)
+        run_top(
+            rt,
+            alloc,
+            words,
+            &mut source,
+            &mut sink,
+            &OpenGate,
+            &mut kept,
+        )
     } else {
         plain_top(alloc, words, &mut source, &mut sink)
     };
@@ -84,11 +92,12 @@ fn push_fronts<H: Threads + Wait + Sync>(
     for n in 0..=input.len() {
         let answer = call(rt, alloc, case.words.as_slice(), &input[..n])?;
         let is_same = match &last {
-            Some(last) => last.status == answer.status && last.text.as_slice() == answer.text.as_slice(),
+            Some(last) => last.status == answer.status
+                && last.text.as_slice() == answer.text.as_slice(),
             None => false,
         };
         if !is_same {
-            push_decimal(alloc, out, n as u32)?;
+            push_decimal(alloc, out, u32::try_from(n).unwrap_or(u32::MAX))?;
             out.push(b' ')?;
             push_decimal(alloc, out, u32::from(answer.status.number()))?;
             out.push(b'\n')?;

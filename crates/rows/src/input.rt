@@ -26,14 +26,13 @@ fn repeated(line: &[u8]) -> (u32, &[u8]) {
     }
 }
 
-/// What follows a backslash: the byte with the two digits of `xHH`, and what comes behind it; else the backslash itself.
-fn unescaped(behind: &[u8]) -> (u8, &[u8]) {
-    if let [b'x', high, low, after @ ..] = behind {
-        if let Some([byte]) = hex_array::<1>(&[*high, *low]) {
-            return (byte, after);
-        }
+/// The byte of `xHH` with two hexadecimal digits, with which a text begins.
+fn escaped_byte(text: &[u8]) -> Option<u8> {
+    if text.len() < 3 || text[0] != b'x' {
+        return None;
     }
-    (b'\\', behind)
+    let [byte] = hex_array::<1>(&text[1..3])?;
+    Some(byte)
 }
 
 /// Appends a line in which `\xHH` is one byte. A backslash at its end takes its line feed away.
@@ -47,9 +46,16 @@ fn push_once(input: &mut Vec<u8>, line: &[u8]) -> Result<(), AllocError> {
         if behind.is_empty() {
             return Ok(());
         }
-        let (byte, after) = unescaped(behind);
-        input.push(byte)?;
-        rest = after;
+        match escaped_byte(behind) {
+            Some(byte) if behind.len() >= 3 => {
+                input.push(byte)?;
+                rest = &behind[3..];
+            }
+            _ => {
+                input.push(b'\\')?;
+                rest = behind;
+            }
+        }
     }
     push_plain(input, rest)
 }
