@@ -1,10 +1,9 @@
 //! Letters in their places, and the steps of the bag machine that runs spell. The lists are worked out by hand from
 //! the programs.
 
-use crate::jobs::{EAST, KEYED};
-use crate::machines::{machine, makes, replay};
-use std::alloc::Global;
-use std::process::Abort;
+use crate::jobs::{ACROSS, EAST, ECHO, KEYED, LEFT, MEET, THRICE};
+use crate::machines::{after, machine, replay};
+use std::alloc::{AllocError, Global};
 use std::test::Fail;
 use tn_bag::place::Place;
 use tn_bag::places::standing;
@@ -13,22 +12,450 @@ use tn_bag::steps::{BagStep, Seen};
 use tn_base::bytes::Bytes;
 use tn_base::event::Event;
 use tn_base::ids::{PartId, ThreadId, TileId};
-use tn_base::message::Letter;
+use tn_base::message::{HOST, Letter};
 use tn_base::port::Port;
-use tn_link::plain::PlainLink;
-use tn_tile::deliver::Did;
-use tn_world::play::play;
-use tn_world::world::World;
 
-/// A thread writes 77 into its message, sends it to itself, polls until it is there, takes it, reads 77 from it, frees it
-/// and ends with 77.
-const ECHO: &[u8] =
-    b"tinsel 1\nshape 1 1 1 1 1 1\ncode all\n500005b7\n04d00613\n00c5a023\n80301073\n\
-    80601073\n80102573\nfe050ee3\n807025f3\n0005a503\n80859073\n80b51073\nend\n";
+/// The letter from a thread, by the number of its packet, of 16 bytes that begin with four.
+#[derive(Clone, Copy)]
+struct Note {
+    origin: u32,
+    number: u32,
+    receiver: u32,
+    front: [u8; 4],
+}
 
-/// A thread sends itself an empty message, and ends some steps later without it.
-const LEFT: &[u8] = b"tinsel 1\nshape 1 1 1 1 1 1\nturn 2\ncode all\n80301073\n80601073\n00000013\n\
-    00000013\n80b01073\nend\n";
+/// The first letter from thread 0.
+const FROM_0: Note = Note {
+    origin: 0,
+    number: 0,
+    receiver: 0,
+    front: [0; 4],
+};
+
+/// The first letter from thread 1.
+const FROM_1: Note = Note {
+    origin: 1,
+    number: 0,
+    receiver: 0,
+    front: [0; 4],
+};
+
+/// The letter of a note.
+fn letter(note: &Note) -> Result<Letter, Fail> {
+    let [a, b, c, d] = note.front;
+    let bytes = Bytes::of(&[a, b, c, d, 0, 0, 0, 0, 0, 0, 0, 0, 0, 0, 0, 0])?;
+    Ok(Letter {
+        origin: note.origin,
+        number: note.number,
+        receiver: note.receiver,
+        bytes,
+    })
+}
+
+/// The letters that stand on the machine of a job after the first so many of these events.
+struct Standing {
+    job: &'static [u8],
+    events: &'static [Event],
+    made: usize,
+    letters: &'static [(Place, Note)],
+}
+
+/// Whether these letters stand there, in this order.
+fn stand(alloc: Global, case: &Standing) -> Result<bool, Fail> {
+    let made = case.made.min(case.events.len());
+    let world = after(alloc, case.job, &case.events[..made])?;
+    let mut expected = Vec::new(alloc);
+    for (place, note) in case.letters {
+        expected.push((*place, letter(note)?))?;
+    }
+    let found = standing(alloc, &world)?;
+    Ok(found.as_slice() == expected.as_slice())
+}
+
+/// The packet of `KEYED` comes to the router, is routed, goes into a slot while the next record's stays in the buffer, and
+/// is taken.
+const BY_KEY: [Event; 9] = [
+    Event::Turn(ThreadId(0), 11),
+    Event::Deliver(ThreadId(0)),
+    Event::Depart(PartId(1), PartId(3)),
+    Event::Arrive(PartId(3), PartId(2)),
+    Event::Route(PartId(2)),
+    Event::Depart(PartId(2), PartId(4)),
+    Event::Route(PartId(2)),
+    Event::Arrive(PartId(4), PartId(1)),
+    Event::Turn(ThreadId(1), 9),
+];
+
+/// The packet of `ACROSS` comes to the first router, which does both records, and over the link to the other one.
+const OVER: [Event; 8] = [
+    Event::Turn(ThreadId(0), 6),
+    Event::Deliver(ThreadId(0)),
+    Event::Depart(PartId(1), PartId(5)),
+    Event::Arrive(PartId(5), PartId(3)),
+    Event::Route(PartId(3)),
+    Event::Route(PartId(3)),
+    Event::Depart(PartId(3), PartId(8)),
+    Event::Arrive(PartId(8), PartId(4)),
+];
+
+/// Both threads of `MEET` send; the packets come to both sides of the western router, and the one from the east goes on.
+const MEETING: [Event; 17] = [
+    Event::Turn(ThreadId(0), 6),
+    Event::Turn(ThreadId(1024), 8),
+    Event::Deliver(ThreadId(0)),
+    Event::Turn(ThreadId(0), 6),
+    Event::Deliver(ThreadId(1024)),
+    Event::Depart(PartId(1), PartId(5)),
+    Event::Deliver(ThreadId(0)),
+    Event::Arrive(PartId(5), PartId(3)),
+    Event::Route(PartId(3)),
+    Event::Depart(PartId(1), PartId(5)),
+    Event::Arrive(PartId(5), PartId(3)),
+    Event::Depart(PartId(2), PartId(6)),
+    Event::Arrive(PartId(6), PartId(4)),
+    Event::Route(PartId(4)),
+    Event::Depart(PartId(4), PartId(10)),
+    Event::Arrive(PartId(10), PartId(3)),
+    Event::Route(PartId(3)),
+];
+
+/// A thread of `THRICE` sends three messages, each as soon as the last one went on.
+const SENDS: [Event; 5] = [
+    Event::Turn(ThreadId(1), 8),
+    Event::Deliver(ThreadId(1)),
+    Event::Turn(ThreadId(1), 5),
+    Event::Deliver(ThreadId(1)),
+    Event::Turn(ThreadId(1), 5),
+];
+
+/// `ECHO` up to its end.
+const WHOLE: [Event; 3] = [
+    Event::Turn(ThreadId(0), 16),
+    Event::Deliver(ThreadId(0)),
+    Event::Turn(ThreadId(0), 7),
+];
+
+/// The places of the machine of `KEYED`, and its letters: of the first beat's records, and of the second beat's one.
+const WORK: Place = Place::InProcess(PartId(2), Port::Up);
+
+const BUFFER: Place = Place::Transit(PartId(2), Port::Down);
+
+const SLOT: Place = Place::Slot(TileId(0), 0, ThreadId(1));
+
+const URM: Note = Note {
+    receiver: 1,
+    front: [4, 3, 2, 1],
+    ..FROM_0
+};
+
+const MRM_1: Note = Note {
+    receiver: 1,
+    front: [5, 0, 1, 0],
+    ..FROM_0
+};
+
+const MRM_2: Note = Note {
+    receiver: 2,
+    front: [5, 0, 1, 0],
+    ..FROM_0
+};
+
+const MRM_0: Note = Note {
+    front: [7, 0, 1, 0],
+    ..FROM_0
+};
+
+const LATER: Note = Note {
+    front: [9, 0, 0, 0],
+    ..FROM_0
+};
+
+/// The letters of the machine of `ACROSS`: one that goes down on the first board, and two for the other board's thread.
+const NEAR: (Place, Note) = (
+    Place::Transit(PartId(3), Port::Down),
+    Note {
+        front: [7, 0, 0, 0],
+        ..FROM_0
+    },
+);
+
+const FAR_8: Note = Note {
+    receiver: 1024,
+    front: [8, 0, 0, 0],
+    ..FROM_0
+};
+
+const FAR_9: Note = Note {
+    receiver: 1024,
+    front: [9, 0, 0, 0],
+    ..FROM_0
+};
+
+/// The letters of the machine of `MEET`.
+const ONWARD: Note = Note {
+    number: 1,
+    receiver: 1024,
+    ..FROM_0
+};
+
+const TO_HOST: Note = Note {
+    origin: 1024,
+    receiver: HOST,
+    ..FROM_0
+};
+
+/// The letters of the machine of `THRICE`.
+const TO_17: Note = Note {
+    receiver: 17,
+    ..FROM_1
+};
+
+const TO_16: Note = Note {
+    number: 1,
+    receiver: 16,
+    ..FROM_1
+};
+
+/// The letter of `ECHO`.
+const ECHOED: Note = Note {
+    front: [77, 0, 0, 0],
+    ..FROM_0
+};
+
+const STANDING: [Standing; 15] = [
+    Standing {
+        job: ECHO,
+        events: &WHOLE,
+        made: 1,
+        letters: &[(Place::Pending(ThreadId(0)), ECHOED)],
+    },
+    Standing {
+        job: ECHO,
+        events: &WHOLE,
+        made: 3,
+        letters: &[],
+    },
+    Standing {
+        job: EAST,
+        events: &[
+            Event::Turn(ThreadId(0), 8),
+            Event::Deliver(ThreadId(0)),
+            Event::Depart(PartId(1), PartId(4)),
+        ],
+        made: 3,
+        letters: &[(
+            Place::OnLink(PartId(4), 0),
+            Note {
+                receiver: 64,
+                front: [64, 0, 0, 0],
+                ..FROM_0
+            },
+        )],
+    },
+    // A packet without a key has a letter for each receiver: the threads of a mask, a thread, the host.
+    Standing {
+        job: THRICE,
+        events: &SENDS,
+        made: 1,
+        letters: &[
+            (Place::Pending(ThreadId(1)), FROM_1),
+            (Place::Pending(ThreadId(1)), TO_17),
+        ],
+    },
+    Standing {
+        job: THRICE,
+        events: &SENDS,
+        made: 3,
+        letters: &[
+            (Place::Pending(ThreadId(1)), TO_16),
+            (Place::Slot(TileId(0), 0, ThreadId(0)), FROM_1),
+            (Place::Slot(TileId(0), 0, ThreadId(17)), TO_17),
+        ],
+    },
+    Standing {
+        job: THRICE,
+        events: &SENDS,
+        made: 5,
+        letters: &[
+            (
+                Place::Pending(ThreadId(1)),
+                Note {
+                    number: 2,
+                    receiver: HOST,
+                    ..FROM_1
+                },
+            ),
+            (Place::Slot(TileId(0), 0, ThreadId(0)), FROM_1),
+            (Place::Slot(TileId(0), 0, ThreadId(17)), TO_17),
+            (Place::Slot(TileId(0), 1, ThreadId(16)), TO_16),
+        ],
+    },
+    Standing {
+        job: KEYED,
+        events: &BY_KEY,
+        made: 4,
+        letters: &[
+            (WORK, URM),
+            (WORK, MRM_1),
+            (WORK, MRM_2),
+            (WORK, MRM_0),
+            (WORK, LATER),
+        ],
+    },
+    Standing {
+        job: KEYED,
+        events: &BY_KEY,
+        made: 5,
+        letters: &[
+            (BUFFER, URM),
+            (WORK, MRM_1),
+            (WORK, MRM_2),
+            (WORK, MRM_0),
+            (WORK, LATER),
+        ],
+    },
+    Standing {
+        job: KEYED,
+        events: &BY_KEY,
+        made: 8,
+        letters: &[
+            (SLOT, URM),
+            (BUFFER, MRM_1),
+            (BUFFER, MRM_2),
+            (WORK, MRM_0),
+            (WORK, LATER),
+        ],
+    },
+    Standing {
+        job: KEYED,
+        events: &BY_KEY,
+        made: 9,
+        letters: &[
+            (BUFFER, MRM_1),
+            (BUFFER, MRM_2),
+            (WORK, MRM_0),
+            (WORK, LATER),
+        ],
+    },
+    Standing {
+        job: ACROSS,
+        events: &OVER,
+        made: 6,
+        letters: &[
+            (Place::Transit(PartId(3), Port::East), FAR_8),
+            (Place::Transit(PartId(3), Port::East), FAR_9),
+            NEAR,
+        ],
+    },
+    Standing {
+        job: ACROSS,
+        events: &OVER,
+        made: 7,
+        letters: &[
+            NEAR,
+            (Place::OnLink(PartId(8), 0), FAR_8),
+            (Place::OnLink(PartId(8), 0), FAR_9),
+        ],
+    },
+    Standing {
+        job: ACROSS,
+        events: &OVER,
+        made: 8,
+        letters: &[
+            NEAR,
+            (Place::InProcess(PartId(4), Port::West), FAR_8),
+            (Place::InProcess(PartId(4), Port::West), FAR_9),
+        ],
+    },
+    // The first message goes nowhere behind the other board's link, and so is no letter.
+    Standing {
+        job: MEET,
+        events: &MEETING,
+        made: 16,
+        letters: &[
+            (Place::InProcess(PartId(3), Port::East), TO_HOST),
+            (Place::InProcess(PartId(3), Port::Up), ONWARD),
+        ],
+    },
+    Standing {
+        job: MEET,
+        events: &MEETING,
+        made: 17,
+        letters: &[
+            (Place::Transit(PartId(3), Port::HostPort), TO_HOST),
+            (Place::InProcess(PartId(3), Port::Up), ONWARD),
+        ],
+    },
+];
+
+#[test]
+fn letters_in_their_places(rt: HostRuntime) -> Result<(), Fail> {
+    for case in &STANDING {
+        assert!(rt;
+            stand(rt.alloc(), case)?,
+            "{} of {:?}",
+            case.made,
+            case.events
+        );
+    }
+    Ok(())
+}
+
+/// Steps of the bag machine by one thread.
+#[derive(Clone, Copy)]
+enum Steps {
+    /// So many that concern the thread alone.
+    Private(u32, u32, Seen),
+    /// It sends.
+    Send(u32, Seen),
+    /// It is handed a letter.
+    Hand(u32, Seen, Note),
+    /// It gives up the letter in a slot.
+    Free(u32, Seen, u16),
+    /// A letter to it is dropped.
+    Discard(Note),
+}
+
+/// Appends steps.
+fn push_steps(all: &mut Vec<BagStep>, steps: &Steps) -> Result<(), Fail> {
+    match *steps {
+        Steps::Private(thread, count, seen) => {
+            for _ in 0..count {
+                all.push(BagStep::Private { thread, seen })?;
+            }
+        }
+        Steps::Send(thread, seen) => all.push(BagStep::Send { thread, seen })?,
+        Steps::Hand(thread, seen, note) => {
+            let letter = letter(&note)?;
+            all.push(BagStep::Hand {
+                thread,
+                seen,
+                letter,
+            })?
+        }
+        Steps::Free(thread, seen, slot) => all.push(BagStep::Free { thread, seen, slot })?,
+        Steps::Discard(note) => {
+            let letter = letter(&note)?;
+            all.push(BagStep::Discard { letter })?
+        }
+    }
+    Ok(())
+}
+
+/// Whether the run of these events spells these steps.
+fn spells(alloc: Global, job: &[u8], events: &[Event], steps: &[Steps]) -> Result<bool, Fail> {
+    let start = machine(alloc, job)?;
+    let mut end = start.copy()?;
+    if !replay(&mut end, events)? {
+        return Err(Fail::from("the events are no run"));
+    }
+    let mut expected = Vec::new(alloc);
+    for one in steps {
+        push_steps(&mut expected, one)?;
+    }
+    let found = bag_of(alloc, &start, events)?;
+    Ok(found == expected)
+}
 
 /// What a thread sees: no message, and no send pending.
 const NOTHING: Seen = Seen {
@@ -44,297 +471,83 @@ const SENDING: Seen = Seen {
     key: None,
 };
 
-/// Its message is there.
-const ARRIVED: Seen = Seen {
+/// A message is there, in slot 0. It begins with 0.
+const CAME: Seen = Seen {
     can_send: true,
     first: Some(0),
+    key: Some(0),
+};
+
+/// The message of `ECHO`, and the first one of `KEYED` at thread 1.
+const CAME_77: Seen = Seen {
     key: Some(77),
+    ..CAME
 };
 
-/// The first letter from thread 0, of 16 bytes that begin with these.
-fn letter<H: Abort>(rt: &H, receiver: u32, front: [u8; 4]) -> Result<Letter, Fail> {
-    let [a, b, c, d] = front;
-    let Ok(bytes) = Bytes::of(&[a, b, c, d, 0, 0, 0, 0, 0, 0, 0, 0, 0, 0, 0, 0]) else {
-        panic!(rt; "16 bytes are no message");
-    };
-    Ok(Letter {
-        origin: 0,
-        number: 0,
-        receiver,
-        bytes,
-    })
-}
-
-/// A run of a machine, and the steps that it spells.
-#[derive(Drop)]
-struct Spelled {
-    end: World<PlainLink>,
-    events: Vec<Event>,
-    steps: Vec<BagStep>,
-}
-
-/// The run of these events.
-fn spell(alloc: Global, start: &World<PlainLink>, events: Vec<Event>) -> Result<Spelled, Fail> {
-    let mut end = start.copy()?;
-    if !replay(&mut end, events.as_slice())? {
-        return Err(Fail::from("the events are no run"));
-    }
-    let steps = bag_of(alloc, start, events.as_slice())?;
-    Ok(Spelled { end, events, steps })
-}
-
-/// A run of at most so many events.
-fn play_and_spell(alloc: Global, start: &World<PlainLink>, limit: u64) -> Result<Spelled, Fail> {
-    let mut world = start.copy()?;
-    let events = play(&mut world, limit)?;
-    spell(alloc, start, events)
-}
-
-/// So many steps that concern the thread alone.
-fn push_private(all: &mut Vec<BagStep>, thread: u32, count: u32, seen: Seen) -> Result<(), Fail> {
-    for _ in 0..count {
-        all.push(BagStep::Private { thread, seen })?;
-    }
-    Ok(())
-}
-
-/// The steps of `ECHO` up to the end of its first turn.
-fn first_turn(alloc: Global) -> Result<Vec<BagStep>, Fail> {
-    let mut all = Vec::new(alloc);
-    push_private(&mut all, 0, 4, NOTHING)?;
-    all.push(BagStep::Send {
-        thread: 0,
-        seen: NOTHING,
-    })?;
-    push_private(&mut all, 0, 11, SENDING)?;
-    Ok(all)
-}
-
-#[test]
-fn a_letter_step_by_step(rt: HostRuntime) -> Result<(), Fail> {
-    let alloc: Global = rt.alloc();
-    let start = machine(&rt, alloc, ECHO)?;
-    let sent = play_and_spell(alloc, &start, 1)?;
-    let mut expected = first_turn(alloc)?;
-    assert!(rt; sent.steps == expected);
-    let places = standing(alloc, &sent.end)?;
-    let pending = Place::Pending(ThreadId(0));
-    assert!(rt; places.as_slice() == [(pending, letter(&rt, 0, [77, 0, 0, 0])?)].as_slice());
-    let whole = play_and_spell(alloc, &start, 100)?;
-    assert_eq!(rt; whole.events.len(), 3);
-    push_private(&mut expected, 0, 3, ARRIVED)?;
-    expected.push(BagStep::Hand {
-        thread: 0,
-        seen: ARRIVED,
-        letter: letter(&rt, 0, [77, 0, 0, 0])?,
-    })?;
-    push_private(&mut expected, 0, 1, NOTHING)?;
-    expected.push(BagStep::Free {
-        thread: 0,
-        seen: NOTHING,
-        slot: 0,
-    })?;
-    push_private(&mut expected, 0, 1, NOTHING)?;
-    assert!(rt; whole.steps == expected);
-    assert!(rt; standing(alloc, &whole.end)?.is_empty());
-    Ok(())
-}
-
-#[test]
-fn a_letter_that_is_left(rt: HostRuntime) -> Result<(), Fail> {
-    let alloc: Global = rt.alloc();
-    let start = machine(&rt, alloc, LEFT)?;
-    let whole = play_and_spell(alloc, &start, 100)?;
-    let last = whole.steps.last();
-    assert!(rt;
-        last == Some(&BagStep::Discard {
-            letter: letter(&rt, 0, [0; 4])?
-        })
-    );
-    assert_eq!(rt; whole.steps.len(), 6);
-    Ok(())
-}
-
-#[test]
-fn a_letter_on_a_link(rt: HostRuntime) -> Result<(), Fail> {
-    let alloc: Global = rt.alloc();
-    let mut world = machine(&rt, alloc, EAST)?;
-    let eastward = PartId(4);
-    makes(&rt, &mut world, Event::Turn(ThreadId(0), 8), Did::Moved)?;
-    makes(&rt, &mut world, Event::Deliver(ThreadId(0)), Did::Moved)?;
-    makes(
-        &rt,
-        &mut world,
-        Event::Depart(PartId(1), eastward),
-        Did::Moved,
-    )?;
-    let places = standing(alloc, &world)?;
-    let on = Place::OnLink(eastward, 0);
-    assert!(rt; places.as_slice() == [(on, letter(&rt, 64, [64, 0, 0, 0])?)].as_slice());
-    Ok(())
-}
-
-/// The parts of the machine of `KEYED`.
-const TILE: PartId = PartId(1);
-
-const ROUTER: PartId = PartId(2);
-
-const UPWARD: PartId = PartId(3);
-
-const DOWNWARD: PartId = PartId(4);
-
-/// Thread 0 sends by its key, and the packet comes to the router.
-const TO_ROUTER: [Event; 4] = [
-    Event::Turn(ThreadId(0), 11),
-    Event::Deliver(ThreadId(0)),
-    Event::Depart(TILE, UPWARD),
-    Event::Arrive(UPWARD, ROUTER),
-];
-
-/// The first record's packet goes down and into a slot, and the second record's stays in the router's buffer.
-const TO_TILE: [Event; 3] = [
-    Event::Depart(ROUTER, DOWNWARD),
-    Event::Route(ROUTER),
-    Event::Arrive(DOWNWARD, TILE),
-];
-
-/// The receivers and first bytes of the letters of the first beat's records, and of the second beat's one.
-const FIRST: [(u32, [u8; 4]); 1] = [(1, [4, 3, 2, 1])];
-
-const SECOND: [(u32, [u8; 4]); 2] = [(1, [5, 0, 1, 0]), (2, [5, 0, 1, 0])];
-
-const LATER: [(u32, [u8; 4]); 2] = [(0, [7, 0, 1, 0]), (0, [9, 0, 0, 0])];
-
-/// What thread 1 sees when its first letter has come.
-const KEY_CAME: Seen = Seen {
-    can_send: true,
-    first: Some(0),
+const CAME_0304: Seen = Seen {
     key: Some(0x304),
+    ..CAME
 };
 
-/// The letters that stand on a machine are these, by place.
-fn stand<H: Abort>(
-    rt: &H,
-    alloc: Global,
-    world: &World<PlainLink>,
-    groups: &[(Place, &[(u32, [u8; 4])])],
-) -> Result<(), Fail> {
-    let mut expected = Vec::new(alloc);
-    for (place, letters) in groups {
-        for (receiver, front) in *letters {
-            expected.push((*place, letter(rt, *receiver, *front)?))?;
-        }
-    }
-    let places = standing(alloc, world)?;
-    assert!(rt; places.as_slice() == expected.as_slice());
-    Ok(())
-}
+/// A job, its run, and the steps that the run spells.
+type Spelled = (&'static [u8], &'static [Event], &'static [Steps]);
 
-#[test]
-fn letters_in_a_router(rt: HostRuntime) -> Result<(), Fail> {
-    let alloc: Global = rt.alloc();
-    let mut world = machine(&rt, alloc, KEYED)?;
-    let work = Place::InProcess(ROUTER, Port::Up);
-    let buffer = Place::Transit(ROUTER, Port::Down);
-    let slot = Place::Slot(TileId(0), 0, ThreadId(1));
-    assert!(rt; replay(&mut world, TO_ROUTER.as_slice())?);
-    let all = [
-        (work, FIRST.as_slice()),
-        (work, SECOND.as_slice()),
-        (work, LATER.as_slice()),
-    ];
-    stand(&rt, alloc, &world, all.as_slice())?;
-    makes(&rt, &mut world, Event::Route(ROUTER), Did::Moved)?;
-    // The buffer is full.
-    makes(&rt, &mut world, Event::Route(ROUTER), Did::Nothing)?;
-    let one_done = [
-        (buffer, FIRST.as_slice()),
-        (work, SECOND.as_slice()),
-        (work, LATER.as_slice()),
-    ];
-    stand(&rt, alloc, &world, one_done.as_slice())?;
-    assert!(rt; replay(&mut world, TO_TILE.as_slice())?);
-    let two_done = [
-        (slot, FIRST.as_slice()),
-        (buffer, SECOND.as_slice()),
-        (work, LATER.as_slice()),
-    ];
-    stand(&rt, alloc, &world, two_done.as_slice())
-}
-
-#[test]
-fn a_keyed_message_in_the_bag(rt: HostRuntime) -> Result<(), Fail> {
-    let alloc: Global = rt.alloc();
-    let start = machine(&rt, alloc, KEYED)?;
-    let mut events = Vec::new(alloc);
-    events.extend_from_slice(TO_ROUTER.as_slice())?;
-    events.push(Event::Route(ROUTER))?;
-    events.extend_from_slice(TO_TILE.as_slice())?;
-    events.push(Event::Turn(ThreadId(1), 9))?;
-    let spelled = spell(alloc, &start, events)?;
-    // What the router does is no step of the bag machine: the five letters are in flight from the send on.
-    let mut expected = Vec::new(alloc);
-    push_private(&mut expected, 0, 10, NOTHING)?;
-    expected.push(BagStep::Send {
-        thread: 0,
-        seen: NOTHING,
-    })?;
-    push_private(&mut expected, 1, 8, KEY_CAME)?;
-    expected.push(BagStep::Hand {
-        thread: 1,
-        seen: KEY_CAME,
-        letter: letter(&rt, 1, [4, 3, 2, 1])?,
-    })?;
-    assert!(rt; spelled.steps == expected);
-    let left = [
-        (Place::Transit(ROUTER, Port::Down), SECOND.as_slice()),
-        (Place::InProcess(ROUTER, Port::Up), LATER.as_slice()),
-    ];
-    stand(&rt, alloc, &spelled.end, left.as_slice())
-}
-
-/// Thread 0 sends by key 1: to itself with key 7, and over the boards' link, behind which a URM1 with key 8 and an MRM with
-/// key 9 lead to the other board's thread.
-const ACROSS: &[u8] = b"tinsel 1\nshape 2 1 1 1 1 1\nasm all\n\
-    csrrs a0, HartId, x0\nbnez a0, quit\nli a1, 1\ncsrrw x0, SendDest, a1\n\
-    li a1, 2\ncsrrw x0, Send, a1\nquit: csrrw x0, Kill, x0\nend\ntable 0 0\n\
-    020000e000000000220000000000000000000000000000000000000000000000\nend\ntable 1 0\n\
-    0300000001000000830480000000000000000000000000000000000000000000\nend\n";
-
-/// The routers of the machine of `ACROSS`, and the link between them.
-const WESTERN: PartId = PartId(3);
-
-const EASTERN: PartId = PartId(4);
-
-const BETWEEN: PartId = PartId(8);
-
-/// The packet comes to the first router, which does both records: one goes down, one east.
-const TO_EDGE: [Event; 6] = [
-    Event::Turn(ThreadId(0), 6),
-    Event::Deliver(ThreadId(0)),
-    Event::Depart(PartId(1), PartId(5)),
-    Event::Arrive(PartId(5), WESTERN),
-    Event::Route(WESTERN),
-    Event::Route(WESTERN),
+/// The router is no part of the bag machine: the letters of `KEYED` are in flight from the send on.
+const SPELLED: [Spelled; 4] = [
+    (
+        ECHO,
+        &[Event::Turn(ThreadId(0), 16)],
+        &[
+            Steps::Private(0, 4, NOTHING),
+            Steps::Send(0, NOTHING),
+            Steps::Private(0, 11, SENDING),
+        ],
+    ),
+    (
+        ECHO,
+        &WHOLE,
+        &[
+            Steps::Private(0, 4, NOTHING),
+            Steps::Send(0, NOTHING),
+            Steps::Private(0, 11, SENDING),
+            Steps::Private(0, 3, CAME_77),
+            Steps::Hand(0, CAME_77, ECHOED),
+            Steps::Private(0, 1, NOTHING),
+            Steps::Free(0, NOTHING, 0),
+            Steps::Private(0, 1, NOTHING),
+        ],
+    ),
+    (
+        LEFT,
+        &[
+            Event::Turn(ThreadId(0), 2),
+            Event::Deliver(ThreadId(0)),
+            Event::Turn(ThreadId(0), 2),
+            Event::Turn(ThreadId(0), 1),
+        ],
+        &[
+            Steps::Private(0, 1, NOTHING),
+            Steps::Send(0, NOTHING),
+            Steps::Private(0, 3, CAME),
+            Steps::Discard(FROM_0),
+        ],
+    ),
+    (
+        KEYED,
+        &BY_KEY,
+        &[
+            Steps::Private(0, 10, NOTHING),
+            Steps::Send(0, NOTHING),
+            Steps::Private(1, 8, CAME_0304),
+            Steps::Hand(1, CAME_0304, URM),
+        ],
+    ),
 ];
 
-/// The receivers and first bytes of the letters for each board.
-const NEAR: [(u32, [u8; 4]); 1] = [(0, [7, 0, 0, 0])];
-
-const FAR: [(u32, [u8; 4]); 2] = [(1024, [8, 0, 0, 0]), (1024, [9, 0, 0, 0])];
-
 #[test]
-fn letters_between_boards(rt: HostRuntime) -> Result<(), Fail> {
-    let alloc: Global = rt.alloc();
-    let mut world = machine(&rt, alloc, ACROSS)?;
-    let near = (Place::Transit(WESTERN, Port::Down), NEAR.as_slice());
-    let waits = (Place::Transit(WESTERN, Port::East), FAR.as_slice());
-    let crosses = (Place::OnLink(BETWEEN, 0), FAR.as_slice());
-    let works = (Place::InProcess(EASTERN, Port::West), FAR.as_slice());
-    assert!(rt; replay(&mut world, TO_EDGE.as_slice())?);
-    stand(&rt, alloc, &world, [waits, near].as_slice())?;
-    makes(&rt, &mut world, Event::Depart(WESTERN, BETWEEN), Did::Moved)?;
-    stand(&rt, alloc, &world, [near, crosses].as_slice())?;
-    makes(&rt, &mut world, Event::Arrive(BETWEEN, EASTERN), Did::Moved)?;
-    stand(&rt, alloc, &world, [near, works].as_slice())
+fn steps_of_runs(rt: HostRuntime) -> Result<(), Fail> {
+    for (job, events, steps) in SPELLED {
+        assert!(rt; spells(rt.alloc(), job, events, steps)?, "{:?}", events);
+    }
+    Ok(())
 }

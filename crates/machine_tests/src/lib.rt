@@ -1,15 +1,20 @@
-//! Tests of the machines of jobs: event by event, the places of their letters, and what their runs mean.
+//! Tests of what no command of the program shows: numbers of parts, addresses and ways; single events on machines; the
+//! places of letters, and what runs mean; what parts say of themselves; threads with firmware.
 //!
-//! Beside the tests only the texts of jobs stand here that other tests use as well. `machines::machine` gives a job's machine
-//! at its start.
+//! Only tests stand here. Each kind has one table of cases, one helper and one loop.
 #![tactic(auto)]
 
 #[cfg(test)]
 mod bag_tests;
-pub mod jobs;
 #[cfg(test)]
-mod link_tests;
+mod event_tests;
+#[cfg(test)]
+mod firmware_tests;
+#[cfg(test)]
+mod jobs;
 #[cfg(test)]
 mod machines;
 #[cfg(test)]
-mod world_tests;
+mod rest_tests;
+#[cfg(test)]
+mod shape_tests;

@@ -1,4 +1,4 @@
-//! The machines of jobs, and events on them.
+//! The machines of jobs, and runs of them.
 
 ghost use Rattle.std.specs.Prelude.{IfOk, IsTrue};
 ghost use Rattle.tn_rows.specs.Runs.{Run};
@@ -6,7 +6,6 @@ ghost use Rattle.tn_rows.specs.Runs.{Run};
 use job_load::load::load;
 use job_text::read::read_job;
 use std::alloc::{AllocError, Global};
-use std::process::Abort;
 use std::test::Fail;
 use tn_base::event::Event;
 use tn_link::plain::PlainLink;
@@ -16,33 +15,18 @@ use tn_world::events::{final_of, step};
 use tn_world::world::World;
 
 /// The machine of a job at its start.
-pub(crate) fn machine<H: Abort>(
-    rt: &H,
-    alloc: Global,
-    text: &[u8],
-) -> Result<World<PlainLink>, Fail> {
+pub(crate) fn machine(alloc: Global, text: &[u8]) -> Result<World<PlainLink>, Fail> {
     law_line_count(text);
     if text.len() > 1000 {
-        panic!(rt; "the job is too long");
+        return Err(Fail::from("the job is too long"));
     }
     let Ok(job) = read_job(alloc, text) else {
-        panic!(rt; "the job is not read");
+        return Err(Fail::from("the job is not read"));
     };
-    let Ok(world) = load(alloc, &job) else {
-        panic!(rt; "the job is not loaded");
-    };
-    Ok(world)
-}
-
-/// The event is enabled or not, as it should be.
-pub(crate) fn makes<H: Abort>(
-    rt: &H,
-    world: &mut World<PlainLink>,
-    event: Event,
-    did: Did,
-) -> Result<(), Fail> {
-    assert_eq!(rt; step(world, &event)?, did);
-    Ok(())
+    match load(alloc, &job) {
+        Ok(world) => Ok(world),
+        Err(_) => Err(Fail::from("the job is not loaded")),
+    }
 }
 
 /// Makes events in turn, as far as they are a run. Says whether they all are one.
@@ -59,4 +43,18 @@ pub(crate) fn replay(world: &mut World<PlainLink>, events: &[Event]) -> Result<b
         return Ok(false);
     }
     replay(world, rest)
+}
+
+/// The machine of a job after these events.
+pub(crate) fn after(
+    alloc: Global,
+    text: &[u8],
+    events: &[Event],
+) -> Result<World<PlainLink>, Fail> {
+    let mut world = machine(alloc, text)?;
+    if replay(&mut world, events)? {
+        Ok(world)
+    } else {
+        Err(Fail::from("the events are no run"))
+    }
 }

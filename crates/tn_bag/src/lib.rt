@@ -11,6 +11,4 @@ pub mod places;
 mod router;
 pub mod spell;
 pub mod steps;
-#[cfg(test)]
-mod tests;
 mod turns;

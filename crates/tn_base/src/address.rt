@@ -125,6 +125,3 @@ pub(crate) fn split(number: u32, count: u32) -> (u32, u32)
 {
     (number % count, number / count)
 }
-
-#[cfg(test)]
-mod tests;

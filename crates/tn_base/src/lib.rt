@@ -19,5 +19,3 @@ pub mod part;
 pub mod port;
 pub mod regs;
 pub mod shape;
-#[cfg(test)]
-mod tests;

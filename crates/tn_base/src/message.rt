@@ -132,6 +132,3 @@ impl Shape {
         named < past
     }
 }
-
-#[cfg(test)]
-mod tests;

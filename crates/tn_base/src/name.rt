@@ -73,6 +73,3 @@ impl Hash for Name {
         self.as_slice().hash(state);
     }
 }
-
-#[cfg(test)]
-mod tests;

@@ -294,6 +294,3 @@ impl Shape {
         }
     }
 }
-
-#[cfg(test)]
-mod tests;

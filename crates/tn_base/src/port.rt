@@ -168,6 +168,3 @@ impl Shape {
         }
     }
 }
-
-#[cfg(test)]
-mod tests;

@@ -13,8 +13,6 @@ pub mod onward;
 mod read;
 pub mod record;
 pub mod tables;
-#[cfg(test)]
-mod tests;
 mod write;
 
 pub use read::read_beat;

@@ -5,5 +5,3 @@
 
 pub mod link;
 pub mod plain;
-#[cfg(test)]
-mod tests;

@@ -9,5 +9,3 @@ mod kinds;
 mod measure;
 mod rounds;
 mod running;
-#[cfg(test)]
-mod tests;

@@ -15,6 +15,4 @@ mod rest;
 pub mod route;
 pub mod router;
 mod same;
-#[cfg(test)]
-mod tests;
 pub mod work;

@@ -11,7 +11,5 @@ pub mod place;
 pub mod register;
 pub mod state;
 pub mod step;
-#[cfg(test)]
-mod tests;
 pub mod thread;
 pub mod view;

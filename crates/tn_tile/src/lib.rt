@@ -14,6 +14,4 @@ mod rest;
 mod same;
 mod sight;
 pub mod step;
-#[cfg(test)]
-mod tests;
 pub mod tile;

@@ -1,0 +1,465 @@
+//! Single events on machines, how they end runs, and runs of longest turns. What each event makes is worked out by hand from
+//! docs/MACHINE.md. On one tile the tile is part 1, the router part 2, and the links up and down are parts 3 and 4.
+
+use crate::jobs::{EAST, KEYED, MEET, SPINS, TRAPS, TWO};
+use crate::machines::machine;
+use std::alloc::{AllocError, Global};
+use std::test::Fail;
+use tn_base::event::{Event, Outcome, Trap};
+use tn_base::ids::{PartId, ThreadId};
+use tn_link::plain::PlainLink;
+use tn_tile::deliver::Did;
+use tn_world::events::{enabled, final_of, rest_outcome, step};
+use tn_world::play::play;
+use tn_world::world::World;
+
+/// An event, whether it happens, and the first event that is enabled afterwards.
+type Step = (Event, Did, Option<Event>);
+
+/// Events on a machine in turn, how some events end a run behind them, and how a rest there does.
+struct Scenario {
+    job: &'static [u8],
+    steps: &'static [Step],
+    ends: &'static [(Event, Option<Outcome>)],
+    rest: Outcome,
+}
+
+/// The first step of these that is another, if there is one.
+fn other_step<'a>(
+    world: &mut World<PlainLink>,
+    steps: &'a [Step],
+) -> Result<Option<&'a Step>, AllocError> {
+    for one in steps {
+        let (event, did, next) = one;
+        if step(world, event)? != *did || enabled(world) != *next {
+            return Ok(Some(one));
+        }
+    }
+    Ok(None)
+}
+
+/// The first event of these that ends a run otherwise, if there is one.
+fn other_end<'a>(
+    world: &World<PlainLink>,
+    ends: &'a [(Event, Option<Outcome>)],
+) -> Option<&'a (Event, Option<Outcome>)> {
+    for one in ends {
+        let (event, outcome) = one;
+        if final_of(world, event) != *outcome {
+            return Some(one);
+        }
+    }
+    None
+}
+
+const FIRST: ThreadId = ThreadId(0);
+
+const SECOND: ThreadId = ThreadId(1);
+
+/// The threads of the other tile, and of the other board.
+const TILE_1: ThreadId = ThreadId(64);
+
+const BOARD_1: ThreadId = ThreadId(1024);
+
+/// The links of tile 1 to tile 2, and up.
+const EASTWARD: PartId = PartId(4);
+
+const UPWARD: PartId = PartId(5);
+
+/// The packet that leaves tile 1, and comes to tile 2.
+const DEPARTS: Event = Event::Depart(PartId(1), EASTWARD);
+
+const ARRIVES: Event = Event::Arrive(EASTWARD, PartId(2));
+
+/// What is no event of the machine of `TWO`: a thread can make two steps, so not three and not none; others than its
+/// threads can make none; nothing was sent; and what is not built is never enabled.
+const NO_EVENTS: [Step; 9] = [
+    (
+        Event::Turn(FIRST, 3),
+        Did::Nothing,
+        Some(Event::Turn(FIRST, 1)),
+    ),
+    (
+        Event::Turn(FIRST, 0),
+        Did::Nothing,
+        Some(Event::Turn(FIRST, 1)),
+    ),
+    (
+        Event::Turn(ThreadId(2), 1),
+        Did::Nothing,
+        Some(Event::Turn(FIRST, 1)),
+    ),
+    (
+        Event::Turn(TILE_1, 1),
+        Did::Nothing,
+        Some(Event::Turn(FIRST, 1)),
+    ),
+    (
+        Event::Deliver(FIRST),
+        Did::Nothing,
+        Some(Event::Turn(FIRST, 1)),
+    ),
+    (
+        Event::Depart(PartId(1), PartId(3)),
+        Did::Nothing,
+        Some(Event::Turn(FIRST, 1)),
+    ),
+    (Event::Begin, Did::Nothing, Some(Event::Turn(FIRST, 1))),
+    (Event::Announce, Did::Nothing, Some(Event::Turn(FIRST, 1))),
+    (
+        Event::Turn(FIRST, 2),
+        Did::Moved,
+        Some(Event::Turn(SECOND, 1)),
+    ),
+];
+
+/// Both threads end, the second one step by step.
+const BOTH_END: [Step; 4] = [
+    (
+        Event::Turn(FIRST, 2),
+        Did::Moved,
+        Some(Event::Turn(SECOND, 1)),
+    ),
+    (
+        Event::Turn(FIRST, 1),
+        Did::Nothing,
+        Some(Event::Turn(SECOND, 1)),
+    ),
+    (
+        Event::Turn(SECOND, 1),
+        Did::Moved,
+        Some(Event::Turn(SECOND, 1)),
+    ),
+    (Event::Turn(SECOND, 1), Did::Moved, None),
+];
+
+/// A message and a trap. Turns come before deliveries in the order of events, and both are enabled.
+const MESSAGE_AND_TRAP: [Step; 4] = [
+    (
+        Event::Turn(FIRST, 2),
+        Did::Moved,
+        Some(Event::Turn(FIRST, 1)),
+    ),
+    (
+        Event::Deliver(FIRST),
+        Did::Moved,
+        Some(Event::Turn(FIRST, 1)),
+    ),
+    (
+        Event::Deliver(FIRST),
+        Did::Nothing,
+        Some(Event::Turn(FIRST, 1)),
+    ),
+    (Event::Turn(FIRST, 1), Did::Moved, None),
+];
+
+/// A packet from one tile to the next.
+const TO_TILE: [Step; 17] = [
+    (
+        Event::Turn(FIRST, 8),
+        Did::Moved,
+        Some(Event::Turn(TILE_1, 1)),
+    ),
+    (
+        Event::Turn(TILE_1, 5),
+        Did::Nothing,
+        Some(Event::Turn(TILE_1, 1)),
+    ),
+    (
+        Event::Turn(TILE_1, 4),
+        Did::Moved,
+        Some(Event::Deliver(FIRST)),
+    ),
+    (DEPARTS, Did::Nothing, Some(Event::Deliver(FIRST))),
+    (Event::Deliver(FIRST), Did::Moved, Some(DEPARTS)),
+    // Another link, another part, a link that is no link, and a link that is empty.
+    (
+        Event::Depart(PartId(1), UPWARD),
+        Did::Nothing,
+        Some(DEPARTS),
+    ),
+    (
+        Event::Depart(PartId(2), EASTWARD),
+        Did::Nothing,
+        Some(DEPARTS),
+    ),
+    (
+        Event::Depart(PartId(1), PartId(2)),
+        Did::Nothing,
+        Some(DEPARTS),
+    ),
+    (
+        Event::Depart(PartId(1), PartId(99)),
+        Did::Nothing,
+        Some(DEPARTS),
+    ),
+    (ARRIVES, Did::Nothing, Some(DEPARTS)),
+    (DEPARTS, Did::Moved, Some(ARRIVES)),
+    (DEPARTS, Did::Nothing, Some(ARRIVES)),
+    (
+        Event::Arrive(EASTWARD, PartId(1)),
+        Did::Nothing,
+        Some(ARRIVES),
+    ),
+    (
+        Event::Arrive(UPWARD, PartId(2)),
+        Did::Nothing,
+        Some(ARRIVES),
+    ),
+    (ARRIVES, Did::Moved, Some(Event::Turn(TILE_1, 1))),
+    (ARRIVES, Did::Nothing, Some(Event::Turn(TILE_1, 1))),
+    (Event::Turn(TILE_1, 4), Did::Moved, None),
+];
+
+/// A packet by a key of two beats: a copy a route, as soon as the last one left the buffer. The link down holds four.
+const ROUTE: Event = Event::Route(PartId(2));
+
+const DOWN: Event = Event::Depart(PartId(2), PartId(4));
+
+const INTO_SLOT: Event = Event::Arrive(PartId(4), PartId(1));
+
+const BY_KEY: [Step; 20] = [
+    (
+        Event::Turn(FIRST, 14),
+        Did::Moved,
+        Some(Event::Turn(SECOND, 1)),
+    ),
+    (
+        Event::Turn(SECOND, 7),
+        Did::Moved,
+        Some(Event::Turn(ThreadId(2), 1)),
+    ),
+    (
+        Event::Turn(ThreadId(2), 8),
+        Did::Moved,
+        Some(Event::Deliver(FIRST)),
+    ),
+    (
+        Event::Deliver(FIRST),
+        Did::Moved,
+        Some(Event::Depart(PartId(1), PartId(3))),
+    ),
+    (
+        Event::Depart(PartId(1), PartId(3)),
+        Did::Moved,
+        Some(Event::Arrive(PartId(3), PartId(2))),
+    ),
+    (Event::Arrive(PartId(3), PartId(2)), Did::Moved, Some(ROUTE)),
+    (ROUTE, Did::Moved, Some(DOWN)),
+    (ROUTE, Did::Nothing, Some(DOWN)),
+    (DOWN, Did::Moved, Some(INTO_SLOT)),
+    (ROUTE, Did::Moved, Some(DOWN)),
+    (DOWN, Did::Moved, Some(INTO_SLOT)),
+    (ROUTE, Did::Moved, Some(DOWN)),
+    (DOWN, Did::Moved, Some(INTO_SLOT)),
+    (ROUTE, Did::Moved, Some(DOWN)),
+    (ROUTE, Did::Nothing, Some(DOWN)),
+    (DOWN, Did::Moved, Some(INTO_SLOT)),
+    (INTO_SLOT, Did::Moved, Some(Event::Turn(SECOND, 1))),
+    (INTO_SLOT, Did::Moved, Some(Event::Turn(SECOND, 1))),
+    (INTO_SLOT, Did::Moved, Some(Event::Turn(FIRST, 1))),
+    (INTO_SLOT, Did::Moved, Some(Event::Turn(FIRST, 1))),
+];
+
+/// The events of the machine of two boards: the tiles are parts 1 and 2, the routers 3 and 4, the links up 5 and 6.
+const UP_1: Event = Event::Depart(PartId(1), PartId(5));
+
+const UP_2: Event = Event::Depart(PartId(2), PartId(6));
+
+const TO_ROUTER_3: Event = Event::Arrive(PartId(5), PartId(3));
+
+const TO_ROUTER_4: Event = Event::Arrive(PartId(6), PartId(4));
+
+const ROUTE_3: Event = Event::Route(PartId(3));
+
+const ROUTE_4: Event = Event::Route(PartId(4));
+
+const OVER: Event = Event::Depart(PartId(3), PartId(8));
+
+/// Packets meet at a router: while its way east is full and the packet from the tile waits for it, the packet from the east
+/// goes on to the host's way. At the other router a bad key comes first, since its place does.
+const MEETING: [Step; 31] = [
+    (
+        Event::Turn(FIRST, 6),
+        Did::Moved,
+        Some(Event::Turn(FIRST, 1)),
+    ),
+    (
+        Event::Turn(BOARD_1, 8),
+        Did::Moved,
+        Some(Event::Turn(FIRST, 1)),
+    ),
+    (
+        Event::Deliver(FIRST),
+        Did::Moved,
+        Some(Event::Turn(FIRST, 1)),
+    ),
+    (
+        Event::Turn(FIRST, 6),
+        Did::Moved,
+        Some(Event::Turn(BOARD_1, 1)),
+    ),
+    (
+        Event::Deliver(BOARD_1),
+        Did::Moved,
+        Some(Event::Turn(BOARD_1, 1)),
+    ),
+    (Event::Turn(BOARD_1, 5), Did::Moved, Some(UP_1)),
+    (Event::Deliver(FIRST), Did::Nothing, Some(UP_1)),
+    (UP_1, Did::Moved, Some(Event::Deliver(FIRST))),
+    (Event::Deliver(FIRST), Did::Moved, Some(UP_1)),
+    (TO_ROUTER_3, Did::Moved, Some(UP_1)),
+    (UP_1, Did::Moved, Some(UP_2)),
+    (TO_ROUTER_3, Did::Nothing, Some(UP_2)),
+    (ROUTE_3, Did::Moved, Some(UP_2)),
+    (TO_ROUTER_3, Did::Moved, Some(UP_2)),
+    (ROUTE_3, Did::Nothing, Some(UP_2)),
+    (UP_2, Did::Moved, Some(Event::Deliver(BOARD_1))),
+    (TO_ROUTER_4, Did::Moved, Some(Event::Deliver(BOARD_1))),
+    (ROUTE_4, Did::Moved, Some(Event::Deliver(BOARD_1))),
+    (
+        Event::Depart(PartId(4), PartId(10)),
+        Did::Moved,
+        Some(Event::Deliver(BOARD_1)),
+    ),
+    (
+        Event::Arrive(PartId(10), PartId(3)),
+        Did::Moved,
+        Some(Event::Deliver(BOARD_1)),
+    ),
+    (ROUTE_3, Did::Moved, Some(Event::Deliver(BOARD_1))),
+    (ROUTE_3, Did::Nothing, Some(Event::Deliver(BOARD_1))),
+    (
+        Event::Depart(PartId(3), PartId(11)),
+        Did::Moved,
+        Some(Event::Deliver(BOARD_1)),
+    ),
+    // The host is not built.
+    (
+        Event::Arrive(PartId(11), PartId(0)),
+        Did::Nothing,
+        Some(Event::Deliver(BOARD_1)),
+    ),
+    (OVER, Did::Moved, Some(Event::Deliver(BOARD_1))),
+    (ROUTE_3, Did::Moved, Some(Event::Deliver(BOARD_1))),
+    (Event::Deliver(BOARD_1), Did::Moved, Some(UP_2)),
+    (UP_2, Did::Moved, Some(OVER)),
+    (TO_ROUTER_4, Did::Moved, Some(OVER)),
+    (Event::Arrive(PartId(8), PartId(4)), Did::Moved, Some(OVER)),
+    (ROUTE_4, Did::Moved, Some(OVER)),
+];
+
+const SCENARIOS: [Scenario; 6] = [
+    Scenario {
+        job: TWO,
+        steps: &NO_EVENTS,
+        ends: &[(Event::Turn(FIRST, 2), None)],
+        rest: Outcome::Jammed,
+    },
+    Scenario {
+        job: TWO,
+        steps: &BOTH_END,
+        ends: &[(Event::Turn(SECOND, 1), None)],
+        rest: Outcome::Done,
+    },
+    Scenario {
+        job: TRAPS,
+        steps: &MESSAGE_AND_TRAP,
+        ends: &[
+            (
+                Event::Turn(FIRST, 1),
+                Some(Outcome::Trapped(FIRST, Trap::BadInstr)),
+            ),
+            (Event::Deliver(FIRST), None),
+        ],
+        rest: Outcome::Jammed,
+    },
+    Scenario {
+        job: EAST,
+        steps: &TO_TILE,
+        ends: &[(ARRIVES, None)],
+        rest: Outcome::Done,
+    },
+    Scenario {
+        job: KEYED,
+        steps: &BY_KEY,
+        ends: &[(ROUTE, None)],
+        rest: Outcome::Jammed,
+    },
+    Scenario {
+        job: MEET,
+        steps: &MEETING,
+        ends: &[(ROUTE_4, Some(Outcome::BadKey(0))), (ROUTE_3, None)],
+        rest: Outcome::Jammed,
+    },
+];
+
+#[test]
+fn events(rt: HostRuntime) -> Result<(), Fail> {
+    for scenario in &SCENARIOS {
+        let mut world = machine(rt.alloc(), scenario.job)?;
+        assert_eq!(rt; other_step(&mut world, scenario.steps)?, None);
+        assert_eq!(rt; other_end(&world, scenario.ends), None);
+        assert_eq!(rt; rest_outcome(&world), scenario.rest);
+    }
+    Ok(())
+}
+
+/// Limits in turn, and the events of the run of at most so many.
+type Played = (u64, &'static [Event]);
+
+/// The first limit of these under which the run is another, if there is one.
+fn other_play(alloc: Global, job: &[u8], limits: &[Played]) -> Result<Option<u64>, Fail> {
+    let mut world = machine(alloc, job)?;
+    for (limit, events) in limits {
+        let played = play(&mut world, *limit)?;
+        if played.as_slice() != *events {
+            return Ok(Some(*limit));
+        }
+    }
+    Ok(None)
+}
+
+/// Each turn is as long as it can be: up to the end, up to the trap, and up to the last step that may be made.
+const PLAYS: [(&[u8], &[Played]); 3] = [
+    (
+        TWO,
+        &[
+            (0, &[]),
+            (1, &[Event::Turn(FIRST, 2)]),
+            (10, &[Event::Turn(SECOND, 2)]),
+            (10, &[]),
+        ],
+    ),
+    (TRAPS, &[(10, &[Event::Turn(FIRST, 3)])]),
+    (
+        SPINS,
+        &[
+            (
+                3,
+                &[
+                    Event::Turn(FIRST, 16),
+                    Event::Turn(FIRST, 16),
+                    Event::Turn(FIRST, 16),
+                ],
+            ),
+            (
+                10,
+                &[
+                    Event::Turn(FIRST, 16),
+                    Event::Turn(FIRST, 16),
+                    Event::Turn(FIRST, 16),
+                    Event::Turn(FIRST, 4),
+                ],
+            ),
+        ],
+    ),
+];
+
+#[test]
+fn plays(rt: HostRuntime) -> Result<(), Fail> {
+    for (job, limits) in PLAYS {
+        assert_eq!(rt; other_play(rt.alloc(), job, limits)?, None);
+    }
+    Ok(())
+}

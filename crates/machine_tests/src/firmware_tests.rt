@@ -1,0 +1,384 @@
+//! A thread with the firmware of a graph, which no job has yet: what one dispatch of the firmware makes of a thread at its
+//! start, and which control registers the code outside the firmware may use.
+
+ghost use Rattle.std.specs.Prelude.{◌==◌, IsTrue, Some, None, if◌then◌else◌};
+ghost use Rattle.tn_thread.specs.Command.{FitsCommand};
+
+use std::alloc::Global;
+use std::test::Fail;
+use tn_base::bytes::Bytes;
+use tn_base::effect::Effect;
+use tn_base::event::Trap;
+use tn_base::ids::ThreadId;
+use tn_base::message::Dest;
+use tn_base::op::Op;
+use tn_base::regs::Regs;
+use tn_base::shape::{Shape, ShapeNumbers};
+use tn_thread::command::Command;
+use tn_thread::state::{ThreadState, WaitSet};
+use tn_thread::thread::{FIRMWARE, Thread};
+use tn_thread::view::View;
+
+/// A tile on which the thread holds slot 3.
+#[derive(Drop)]
+struct Seen {
+    can_send: bool,
+    first: Option<u16>,
+    message: Bytes,
+}
+
+impl View for Seen {
+    ghost sight = { λ v. record { can_send = v.can_send; first = v.first; key = None; held = λ s. if s == 3 then Some v.message else None } };
+
+    fn can_send(&self) -> bool {
+        self.can_send
+    }
+
+    fn first(&self) -> Option<u16> {
+        self.first
+    }
+
+    fn key(&self) -> Option<u16> {
+        None
+    }
+
+    fn held(&self, slot: u16) -> Option<&Bytes> {
+        if slot == 3 { Some(&self.message) } else { None }
+    }
+}
+
+/// One tile with two threads, in version 1.
+const TWO: ShapeNumbers = ShapeNumbers {
+    version: 1,
+    boards_x: 1,
+    boards_y: 1,
+    tiles_x: 1,
+    tiles_y: 1,
+    cores: 1,
+    threads: 2,
+    slots: 4,
+    link: 4,
+    mem: 256,
+    fuel: 100,
+    turn: 16,
+};
+
+/// What a step asks of the tile; of a message only where it goes.
+#[derive(Clone, Copy, PartialEq, Eq, Debug)]
+enum Asks {
+    Nothing,
+    Send(Dest),
+    Hand,
+    Free(u16),
+    Idle(bool),
+    Kill(u32),
+    Trap(Trap),
+}
+
+/// What an operation asks.
+fn asked(op: &Op) -> Asks {
+    match op {
+        Op::None => Asks::Nothing,
+        Op::Send(dest, _) => Asks::Send(*dest),
+        Op::Hand => Asks::Hand,
+        Op::Free(slot) => Asks::Free(*slot),
+        Op::Idle(vote) => Asks::Idle(*vote),
+        Op::Kill(value) => Asks::Kill(*value),
+        Op::Trap(why) => Asks::Trap(*why),
+    }
+}
+
+/// What a thread has become in one step: what the step asked, what the thread does, its address, and what was read into x5.
+#[derive(Clone, Copy, PartialEq, Eq, Debug)]
+struct Became {
+    asks: Asks,
+    state: ThreadState,
+    pc: u32,
+    read: u32,
+}
+
+fn look_at(thread: &Thread, op: &Op) -> Became {
+    Became {
+        asks: asked(op),
+        state: *thread.state(),
+        pc: thread.pc(),
+        read: thread.regs().get(5),
+    }
+}
+
+/// A tile on which slot 3 holds a message.
+fn tile(can_send: bool, first: Option<u16>) -> Result<Seen, Fail> {
+    let message = Bytes::of(&[1; 16])?;
+    Ok(Seen {
+        can_send,
+        first,
+        message,
+    })
+}
+
+/// Whether a command enters no handler, or one where instructions may stand.
+fn may_enter(c: &Command) -> bool
+    ensures { IsTrue result → FitsCommand c.now }
+{
+    match c {
+        Command::Enter { entry, .. } => *entry % 4 == 0,
+        _ => true,
+    }
+}
+
+/// What a thread with firmware has become after a command.
+fn commanded(alloc: Global, c: Command, view: &Seen) -> Result<Became, Fail> {
+    let shape = Shape::of(TWO)?;
+    if !may_enter(&c) {
+        return Err(Fail::from("no instruction stands there"));
+    }
+    let _numbers = shape.numbers();
+    let mut thread = Thread::start(alloc, &shape, ThreadId(1), &[], Some(1))?;
+    let op = thread.command(c, view);
+    Ok(look_at(&thread, &op))
+}
+
+/// What a thread with firmware has become after code outside the firmware read or wrote a control register.
+fn used(alloc: Global, csr: u16, writes: bool, view: &Seen) -> Result<Became, Fail> {
+    let shape = Shape::of(TWO)?;
+    let _numbers = shape.numbers();
+    let mut thread = Thread::start(alloc, &shape, ThreadId(1), &[], Some(1))?;
+    let effect = if writes {
+        Effect::CsrWrite {
+            rd: 0,
+            csr,
+            value: 1,
+        }
+    } else {
+        Effect::CsrRead { rd: 5, csr }
+    };
+    let op = thread.apply(effect, view);
+    Ok(look_at(&thread, &op))
+}
+
+/// The thread runs on at the firmware's address.
+const RUNS: Became = Became {
+    asks: Asks::Nothing,
+    state: ThreadState::Run,
+    pc: FIRMWARE,
+    read: 0,
+};
+
+/// A command, whether no send is pending, the first slot of the queue, and what the thread becomes.
+type Case = (Command, bool, Option<u16>, Became);
+
+const BUSY: Became = Became {
+    asks: Asks::Trap(Trap::SendBusy),
+    state: ThreadState::Trapped(Trap::SendBusy),
+    ..RUNS
+};
+
+const COMMANDS: [Case; 16] = [
+    (
+        Command::Recv,
+        true,
+        Some(2),
+        Became {
+            asks: Asks::Hand,
+            ..RUNS
+        },
+    ),
+    (
+        Command::Recv,
+        true,
+        None,
+        Became {
+            asks: Asks::Trap(Trap::RecvEmpty),
+            state: ThreadState::Trapped(Trap::RecvEmpty),
+            ..RUNS
+        },
+    ),
+    // A pin without edges sends nothing, also while a send is pending.
+    (Command::KeySend(None), true, None, RUNS),
+    (Command::KeySend(None), false, None, RUNS),
+    (
+        Command::KeySend(Some(258)),
+        true,
+        None,
+        Became {
+            asks: Asks::Send(Dest::Key(258)),
+            ..RUNS
+        },
+    ),
+    (Command::KeySend(Some(258)), false, None, BUSY),
+    (
+        Command::HostSend,
+        true,
+        None,
+        Became {
+            asks: Asks::Send(Dest::Host),
+            ..RUNS
+        },
+    ),
+    (Command::HostSend, false, None, BUSY),
+    (
+        Command::Free(3),
+        true,
+        None,
+        Became {
+            asks: Asks::Free(3),
+            ..RUNS
+        },
+    ),
+    (
+        Command::Free(2),
+        true,
+        None,
+        Became {
+            asks: Asks::Trap(Trap::BadFree),
+            state: ThreadState::Trapped(Trap::BadFree),
+            ..RUNS
+        },
+    ),
+    (
+        Command::Wait(1),
+        false,
+        None,
+        Became {
+            state: ThreadState::Wait(WaitSet::CAN_SEND),
+            ..RUNS
+        },
+    ),
+    (
+        Command::Wait(6),
+        true,
+        None,
+        Became {
+            state: ThreadState::Wait(WaitSet::CAN_RECV),
+            ..RUNS
+        },
+    ),
+    (
+        Command::Idle(true),
+        true,
+        None,
+        Became {
+            asks: Asks::Idle(true),
+            state: ThreadState::Idle(true),
+            ..RUNS
+        },
+    ),
+    (
+        Command::Idle(false),
+        true,
+        None,
+        Became {
+            asks: Asks::Idle(false),
+            state: ThreadState::Idle(false),
+            ..RUNS
+        },
+    ),
+    (
+        Command::Kill,
+        true,
+        None,
+        Became {
+            asks: Asks::Kill(0),
+            state: ThreadState::Dead(0),
+            ..RUNS
+        },
+    ),
+    (
+        Command::Trap(Trap::BadPin),
+        true,
+        None,
+        Became {
+            asks: Asks::Trap(Trap::BadPin),
+            state: ThreadState::Trapped(Trap::BadPin),
+            ..RUNS
+        },
+    ),
+];
+
+#[test]
+fn commands(rt: HostRuntime) -> Result<(), Fail> {
+    for (command, can_send, first, became) in COMMANDS {
+        let view = tile(can_send, first)?;
+        assert_eq!(rt; commanded(rt.alloc(), command, &view)?, became);
+    }
+    // A handler begins at its address with its registers.
+    let mut regs = Regs::zero();
+    regs.set(5, 9);
+    let enter = Command::Enter { entry: 64, regs };
+    let begins = Became {
+        pc: 64,
+        read: 9,
+        ..RUNS
+    };
+    assert_eq!(rt; commanded(rt.alloc(), enter, &tile(true, None)?)?, begins);
+    Ok(())
+}
+
+/// The use of the control register traps.
+const BAD_CSR: Became = Became {
+    asks: Asks::Trap(Trap::BadCsr),
+    state: ThreadState::Trapped(Trap::BadCsr),
+    ..RUNS
+};
+
+/// A control register, whether it is written, and what the thread becomes. Of all registers code outside the firmware may use HartId and SendSlot.
+const REGISTERS: [(u16, bool, Became); 14] = [
+    (
+        0xF14,
+        false,
+        Became {
+            pc: FIRMWARE + 4,
+            read: 1,
+            ..RUNS
+        },
+    ),
+    (
+        0x80C,
+        false,
+        Became {
+            pc: FIRMWARE + 4,
+            read: 0x5000_0000,
+            ..RUNS
+        },
+    ),
+    (0x800, false, BAD_CSR),
+    (0x801, false, BAD_CSR),
+    (0x807, false, BAD_CSR),
+    (0x802, true, BAD_CSR),
+    (0x803, true, BAD_CSR),
+    (0x804, true, BAD_CSR),
+    (0x805, true, BAD_CSR),
+    (0x806, true, BAD_CSR),
+    (0x808, true, BAD_CSR),
+    (0x809, true, BAD_CSR),
+    (0x80A, true, BAD_CSR),
+    (0x80B, true, BAD_CSR),
+];
+
+#[test]
+fn registers_outside_the_firmware(rt: HostRuntime) -> Result<(), Fail> {
+    let view = tile(true, Some(3))?;
+    for (csr, writes, became) in REGISTERS {
+        assert_eq!(rt; used(rt.alloc(), csr, writes, &view)?, became);
+    }
+    Ok(())
+}
+
+/// After an idle of the firmware that is answered: what was given, whether all registers are still zero, and the address.
+fn answered(alloc: Global, value: u32) -> Result<(u32, bool, u32), Fail> {
+    let shape = Shape::of(TWO)?;
+    let _numbers = shape.numbers();
+    let view = tile(true, None)?;
+    let mut thread = Thread::start(alloc, &shape, ThreadId(1), &[], Some(1))?;
+    let _op = thread.command(Command::Idle(true), &view);
+    thread.answer(value);
+    let _resumed = thread.resume(&view);
+    Ok((thread.given(), *thread.regs() == Regs::zero(), thread.pc()))
+}
+
+/// The completion of the firmware's idle writes no register and stays at its address.
+#[test]
+fn answers(rt: HostRuntime) -> Result<(), Fail> {
+    assert_eq!(rt; answered(rt.alloc(), 1)?, (1, true, FIRMWARE));
+    Ok(())
+}
