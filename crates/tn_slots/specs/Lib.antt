@@ -1,3 +1,5 @@
+pub mod Free
+pub mod Inside
 pub mod Pool
 pub mod PoolModel
 pub mod QueueModel

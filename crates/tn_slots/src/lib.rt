@@ -4,9 +4,9 @@
 //! Read `Pool::put` first.
 #![tactic(auto)]
 
+mod bits;
+mod free;
 pub mod laws;
 pub mod pool;
 mod queues;
 pub mod slot;
-#[cfg(test)]
-mod tests;
