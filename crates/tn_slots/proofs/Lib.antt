@@ -1,6 +1,8 @@
-pub mod Marks
-pub mod Lists
-pub mod Owed
-pub mod Kept
-pub mod Unused
 pub mod Flags
+pub mod Kept
+pub mod Lists
+pub mod Marks
+pub mod Masks
+pub mod Owed
+pub mod Rings
+pub mod Unused

@@ -4,5 +4,6 @@ pub mod Pool
 pub mod PoolModel
 pub mod QueueModel
 pub mod Queues
+pub mod Rings
 pub mod Slot
 pub mod WellKept

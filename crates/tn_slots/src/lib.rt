@@ -9,4 +9,5 @@ mod free;
 pub mod laws;
 pub mod pool;
 mod queues;
+mod ring;
 pub mod slot;

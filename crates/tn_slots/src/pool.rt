@@ -26,6 +26,9 @@ pub struct NotHeld;
 /// The message slots of one tile, and for each of its threads the queue of the slots that it is owed.
 ///
 /// The pool's threads are numbered from 0, those of the tile by ascending address; bit t of a mask names thread t.
+///
+/// All messages are in one block, with the threads that are owed each slot and those that hold it beside the bytes of its
+/// message, which a call can so lend as they are. No call but `leave` and those that read a whole pool goes over the slots.
 #[derive(Drop)]
 pub struct Pool {
     slots: Vec<Slot>,
