@@ -1,7 +1,7 @@
 -- What holds of every pool holds after each operation.
-use Rattle.std.proofs.Common.{ℕ, ◌+◌, ◌*◌, ◌<◌, ◌≤◌, ◌≡◌, ◌≢◌, ◌^◌, ◌%◌, true, List, [], ◌∷◌, ◌++◌, length, get_or, set, drop, zero, suc, refl, sym, ◌∙◌, ap, inl, inr, arith, sum_by, length-set, length-append, Some, None, option_map, replicate, map}
-use Rattle.std.specs.Int.{bit_at, bit_not, w64}
-use Rattle.std.proofs.lemmas.Nat.{and_le_l, or_lt, pow_pos}
+use Rattle.std.proofs.Common.{ℕ, ◌+◌, ◌*◌, ◌<◌, ◌≤◌, ◌≡◌, ◌≢◌, ◌^◌, ◌%◌, true, List, [], ◌∷◌, ◌++◌, length, get_or, set, drop, zero, suc, refl, sym, ◌∙◌, ap, inl, inr, arith, sum_by, length-set, length-append, Some, option_map, replicate, map}
+use Rattle.std.specs.Int.{bit_at}
+use Rattle.std.proofs.lemmas.Nat.{or_lt, pow_pos}
 use Rattle.std.proofs.lemmas.Nat.Bits.{bit_at-lt, bit_at-zero, bit_at-pow_same}
 use Rattle.std.proofs.Math.Nat.{mod-le}
 use Rattle.std.proofs.Math.Pow.{pow-lt}
@@ -16,10 +16,11 @@ use Rattle.tn_slots.specs.declared.slot.Slot.{Slot}
 use Rattle.tn_slots.specs.PoolModel.{PoolModel}
 use Rattle.tn_slots.specs.Slot.{empty_slot, fresh_slot, freed_slot, is_free, left_slot, taken_slot}
 use Rattle.tn_slots.specs.Queues.{first_of}
-use Rattle.tn_slots.specs.Pool.{Holds, first_free, freed, fresh, key_for, key_in, left, put_at, queue_at, slot_at, taken, taken_from}
+use Rattle.tn_slots.specs.Pool.{Holds, first_free, freed, fresh, key_for, key_in, left, put_at, queue_at, slot_at, taken_from}
 use Rattle.tn_slots.specs.WellKept.{WellKept, times}
 use Rattle.tn_slots.proofs.Lists.{bit_cases, both_true, is_zero, kept_by_set, map_each, replicate_each, set_each, times_first, times_other, times_push_other, times_push_same}
-use Rattle.tn_slots.proofs.Owed.{appended_no, appended_yes, first_is, first_none, length-appended}
+use Rattle.tn_slots.proofs.Masks.{without_below}
+use Rattle.tn_slots.proofs.Owed.{appended_no, appended_yes, first_is, length-appended}
 
 -- the threads of the mask are below n
 abbrev pub Named : ℕ → Slot → Type 0
@@ -27,10 +28,6 @@ Named n slot = (slot.owed < 2 ^ n) × (slot.holders < 2 ^ n)
 
 abbrev pub Fits : ℕ → Slot → Type 0
 Fits most slot = length slot.bytes ≤ most
-
-pub without_below : (m t n : ℕ) → m < 2 ^ n → without_bit m t < 2 ^ n
-unfolding without_bit
-without_below m t n h = let e = and_le_l m (bit_not w64 (1 * 2 ^ t % 2 ^ 64)) in omega arith
 
 pub with_below : (m t n : ℕ) → m < 2 ^ n → t < n → with_bit m t < 2 ^ n
 unfolding with_bit
@@ -337,12 +334,6 @@ left_kept p t h w =
       named = rw length-set (map_each (Named (length p.queues)) (left_slot t) p.slots empty_slot w.named (λ x n. (without_below x.owed t (length p.queues) n.0, without_below x.holders t (length p.queues) n.1)));
       fits = map_each (Fits p.slot_bytes) (left_slot t) p.slots empty_slot w.fits (λ x n. n);
     }
-
-pub taken_none : (p : PoolModel) (t : ℕ) → first_of (queue_at p t) ≡ None → taken t p ≡ p
-taken_none p t e = ap (λ q. taken_from t q p) (first_none (queue_at p t) e)
-
-pub taken_some : (p : PoolModel) (t s : ℕ) → first_of (queue_at p t) ≡ Some s → taken t p ≡ taken_from t (s ∷ drop 1 (queue_at p t)) p
-taken_some p t s e = ap (λ q. taken_from t q p) (first_is (queue_at p t) s e)
 
 -- the slot that a put takes is there and is free
 pub first_free_is : (p : PoolModel) (s : ℕ) → first_free p ≡ Some s → (s < length p.slots) × (is_free (slot_at p s) ≡ true)

@@ -1,6 +1,9 @@
+pub mod Free
+pub mod Inside
 pub mod Pool
 pub mod PoolModel
 pub mod QueueModel
 pub mod Queues
+pub mod Rings
 pub mod Slot
 pub mod WellKept

@@ -4,7 +4,10 @@
 //! Read `Pool::put` first.
 #![tactic(auto)]
 
+mod bits;
+mod free;
 pub mod laws;
 pub mod pool;
 mod queues;
+mod ring;
 pub mod slot;

@@ -2,11 +2,12 @@
 
 ghost use Rattle.std.specs.Prelude.{◌≡◌, ◌≤◌, ◌<◌, ◌^◌, ◌↔◌, [], ℕ, length, map, take, drop, is_none, slice_index, slice_index_or, option_map, option_copied, IfOk, IfSome, IsTrue, MatchResult, Some, None};
 ghost use Rattle.std.specs.Int.{bit_at};
-ghost use Rattle.tn_slots.specs.Slot.{left_slot};
+ghost use Rattle.tn_slots.specs.Slot.{is_free, left_slot};
 ghost use Rattle.tn_slots.specs.Queues.{first_of};
 ghost use Rattle.tn_slots.specs.Pool.{Holds, first_free, freed, fresh, held_by, key_for, left, message_at, put_at, queue_at, taken};
 ghost use Rattle.tn_slots.specs.WellKept.{WellKept};
 
+use crate::free::FreeSlots;
 use crate::queues::Queues;
 use crate::slot::Slot;
 use std::alloc::{AllocError, Global};
@@ -25,23 +26,26 @@ pub struct NotHeld;
 /// The message slots of one tile, and for each of its threads the queue of the slots that it is owed.
 ///
 /// The pool's threads are numbered from 0, those of the tile by ascending address; bit t of a mask names thread t.
+///
+/// All messages are in one block, with the threads that are owed each slot and those that hold it beside the bytes of its
+/// message, which a call can so lend as they are. No call but `leave` and those that read a whole pool goes over the slots.
 #[derive(Drop)]
 pub struct Pool {
     slots: Vec<Slot>,
+    free: FreeSlots,
     queues: Queues,
     slot_bytes: u32,
 }
 
 impl Model for Pool {
-    ghost use Rattle.std.specs.Prelude.{◌≤◌, length};
     ghost use Rattle.tn_slots.specs.PoolModel.{PoolModel};
-    ghost use Rattle.tn_slots.specs.WellKept.{WellKept};
+    ghost use Rattle.tn_slots.specs.Inside.{Fitting};
 
     ghost Value = { PoolModel };
 
     ghost view = { λ p. record { slots = p.slots.items; queues = p.queues.queues; slot_bytes = p.slot_bytes } };
 
-    ghost invariant = { λ p. WellKept (record { slots = p.slots.items; queues = p.queues.queues; slot_bytes = p.slot_bytes }) × (length p.slots.items ≤ p.queues.room) };
+    ghost invariant = { λ p. Fitting (record { slots = p.slots.items; queues = p.queues.queues; slot_bytes = p.slot_bytes }) p.free p.queues.room };
 }
 
 impl Pool {
@@ -59,6 +63,7 @@ impl Pool {
         let queues = Queues::of(alloc, threads, slots as usize)?;
         Ok(Pool {
             slots: all,
+            free: FreeSlots::all(slots as usize),
             queues,
             slot_bytes,
         })
@@ -80,6 +85,7 @@ impl Pool {
             owed: mask,
             holders: Mask::of(0),
         };
+        self.free.set(s, mask.is_empty());
         self.queues.append(mask, s as u16);
         Ok(s as u16)
     }
@@ -110,6 +116,8 @@ impl Pool {
         }
         let held = &mut self.slots[slot as usize];
         held.holders = held.holders.without(t);
+        let free = held.is_free();
+        self.free.set(slot as usize, free);
         Ok(())
     }
 
@@ -121,7 +129,7 @@ impl Pool {
     {
         let dropped = self.queue_len(t);
         self.queues.clear(t);
-        leave_each(&mut self.slots, t);
+        leave_each(&mut self.slots, &mut self.free, t);
         dropped
     }
 
@@ -241,6 +249,7 @@ impl Pool {
         let queues = self.queues.copy()?;
         Ok(Pool {
             slots,
+            free: self.free.copy(),
             queues,
             slot_bytes: self.slot_bytes,
         })
@@ -260,19 +269,23 @@ impl Pool {
         ensures first { result ≡ first_free self.now }
         ensures within { IfSome result (λ s. s < length self.now.slots) }
     {
-        self.slots.iter().position(|slot| slot.is_free())
+        self.free.first()
     }
 }
 
-/// Takes the thread out of the receivers and the holders of each slot.
-fn leave_each(slots: &mut Vec<Slot>, t: u32)
-    requires { t < 64 }
-    ensures { slots.new.items ≡ map (left_slot t) slots.old.items }
+/// Takes the thread out of the receivers and the holders of each slot, and notes which slots are free then.
+fn leave_each(slots: &mut Vec<Slot>, free: &mut FreeSlots, t: u32)
+    requires thread { t < 64 }
+    requires free { free.old ≡ map is_free slots.old.items }
+    ensures slots { slots.new.items ≡ map (left_slot t) slots.old.items }
+    ensures free { free.new ≡ map is_free slots.new.items }
 {
     for i in 0..slots.len() {
         let slot = &mut slots[i];
         slot.owed = slot.owed.without(t);
         slot.holders = slot.holders.without(t);
+        let is_free = slot.is_free();
+        free.set(i, is_free);
     }
 }
 

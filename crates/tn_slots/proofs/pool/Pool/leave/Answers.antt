@@ -8,4 +8,8 @@ pub invariant_of-self : goal.invariant_of-self
 invariant_of-self c =
     let p : PoolModel = record { slots = c.self.inside.slots.items; queues = c.self.inside.queues.queues; slot_bytes = c.self.inside.slot_bytes } in
     let h : c.args.t < length c.self.inside.queues.queues = search rules in
-    (rw (c.leave_each.ensures, c.clear.ensures.queues) (left_kept p c.args.t h c.self.invariant.0), rw (c.leave_each.ensures, length-map, c.clear.ensures.room) c.self.invariant.1)
+    record {
+      kept = rw (c.leave_each.ensures.slots, c.clear.ensures.queues) (left_kept p c.args.t h c.self.invariant.kept);
+      flagged = c.leave_each.ensures.free;
+      enough = rw (c.leave_each.ensures.slots, length-map, c.clear.ensures.room) c.self.invariant.enough;
+    }

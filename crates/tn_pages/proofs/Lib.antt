@@ -1,0 +1,5 @@
+pub mod Bytes
+pub mod Made
+pub mod Same
+pub mod Start
+pub mod Stocks
