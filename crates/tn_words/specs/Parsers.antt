@@ -1,10 +1,13 @@
 -- The simple commands of `clap` that read the words after a command's name.
-use Rattle.std.specs.Prelude.{ℕ, Bool, List, true, false, Option, Some, codes, bytes_eq}
+use Rattle.std.specs.Prelude.{ℕ, ◌≡◌, Bool, List, [], true, false, Option, Some, None, codes, bytes_eq}
 use Rattle.std.specs.Option.{option_map_or}
 use Rattle.std.specs.List.{list_any}
+use Rattle.clap.specs.Faults.{fault_of}
 use Rattle.clap.specs.Walk.{Rule}
 use Rattle.clap.specs.Simple.{App, new_app, new_rule, on_top, with_rule}
 use Rattle.clap.specs.declared.builder.action.ArgAction.TheVariants.{SetTrue}
+use Rattle.tn_words.specs.declared.command.Command.{Command}
+use Rattle.tn_words.specs.Forms.{Text, gen_pair}
 
 -- no word names the program, and there is no `--help`
 abbrev pub bare : App
@@ -41,3 +44,16 @@ says text = option_map_or (λ t. bytes_eq t (codes "true")) text false
 -- a word is `--`
 abbrev pub has_dashes : List (List ℕ) → Bool
 has_dashes words = list_any (λ w. bytes_eq w (codes "--")) words
+
+-- no word is `--`, and clap refuses none
+abbrev pub Takes : App → List Text → Type 0
+Takes a words = (has_dashes words ≡ false) × (fault_of a words ≡ [])
+
+abbrev pub pair_of : Option Text → Option Text → Option (Text × Text)
+pair_of (Some a) (Some b) = Some (a, b)
+pair_of (Some a) None = None
+pair_of None b = None
+
+-- the command that clap's values for `gen` make: the option's, and the two words
+abbrev pub gen_told : Option Text → Option Text → Option Text → Option Command
+gen_told value start count = gen_pair value (pair_of start count)
