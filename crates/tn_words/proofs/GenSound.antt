@@ -4,11 +4,11 @@ use Rattle.std.specs.Option.{is_some, option_and_then, option_map}
 use Rattle.std.specs.Str.{chars}
 use Rattle.std.proofs.Math.Bool.{or-false}
 use Rattle.std.proofs.lemmas.Bool.{cases_Bool}
-use Rattle.clap.specs.Faults.{defaults_fault, check_fault, entered_fault, fault_of, settle_fault, turn_fault, use_fault, walk_fault}
+use Rattle.clap.specs.Faults.{entered_fault, fault_of, settle_fault, turn_fault, use_fault}
 use Rattle.clap.specs.Kinds.{Kinds, or_else}
 use Rattle.clap.specs.Lexer.{long_of, short_of}
 use Rattle.clap.specs.Simple.{Shape, built, entered, filled, matches_of, with_index}
-use Rattle.clap.specs.Walk.{Row, Rule, Text, reading_by, settled, finished, with_default, first_of, has_row, idle, is_pending, option, settled_rows, used, walked}
+use Rattle.clap.specs.Walk.{Row, Rule, Text, reading_by, with_default, first_of, has_row, idle, is_pending, option, settled_rows, used, walked}
 use Rattle.clap.proofs.OnLiterals.{clap_on_literals}
 use Rattle.tn_words.specs.Forms.{Parted, attached, gen_among, gen_of, gen_pair, parted, two_of, with_other}
 use Rattle.tn_words.specs.Parsers.{first_rule, gen_app, gen_told, pair_of, second_rule, workers_rule}
@@ -16,7 +16,7 @@ use Rattle.tn_words.proofs.Dashes.{NoDashes}
 use Rattle.tn_words.proofs.GivenRows.{appended, first-before, first-behind, given, given_none, has-append, new_row, or_true, same_rows}
 use Rattle.tn_words.proofs.Looks.{Look, Spells, look}
 use Rattle.tn_words.proofs.Splits.{IsSplit, and_false, attached_is, other_first, same_text, split}
-use Rattle.tn_words.proofs.Turns.{Passes, Pending, end_of, held_at, last_rows, one_more, or_none, turn_of, walk_at}
+use Rattle.tn_words.proofs.Turns.{Passes, Pending, held_at, last_rows, level_passes, one_more, or_none, turn_of, walk_at}
 
 abbrev shape : Shape
 shape = (built gen_app).top
@@ -473,15 +473,8 @@ sound (w ∷ n ∷ rest) ds R P l p = sound_by R P l w (n ∷ rest) (word_of w d
 
 passes_by : (words : List Text) → fault_of gen_app words ≡ [] → Passes shape (walk_at [] None idle 1) words
 passes_by words h =
-    let start = walk_at [] None idle 1 in
-    let stop = (fold (walked own []) start words).stopped in
-    let end = end_of shape start words in
-    let below = entered_fault (built gen_app) stop in
-    let checks = or_else (defaults_fault (settled own end).rows own) (check_fault shape (finished own end) (is_some (entered (built gen_app) stop))) in
-    let a = or_none (walk_fault shape [] start words) (or_else below (or_else (settle_fault own false end) checks)) h in
-    let b = or_none below (or_else (settle_fault own false end) checks) a.1 in
-    let c = or_none (settle_fault own false end) checks b.1 in
-    record { walks = a.0; settles = c.0 }
+    let stop = (fold (walked own []) (walk_at [] None idle 1) words).stopped in
+    level_passes shape words (is_some (entered (built gen_app) stop)) (entered_fault (built gen_app) stop) h
 
 -- no argument has a default
 no_defaults : (rows : List Row) → fold with_default rows own ≡ rows
