@@ -4,3 +4,4 @@ pub mod Words
 pub mod Numbers
 pub mod Names
 pub mod Hex
+pub mod Gives
