@@ -28,12 +28,15 @@ Gives result read = GivesBy (λ x. x) fault_in result read
 abbrev pub Becomes : {X V F : Type 0} → Result X (Stop F) → V → Result V F → Type 0
 Becomes result new read = GivesBy (λ _. new) fault_in result read
 
+abbrev pub fault_on : {K : Type 0} → ℕ → K → Fault K
+fault_on line kind = record { line = line; kind = kind }
+
 -- a kind of fault on this line
 abbrev pub stop_at : {K : Type 0} → ℕ → Stop K → Stop (Fault K)
-stop_at line (stops.Fault kind) = stops.Fault (record { line = line; kind = kind })
+stop_at line (stops.Fault kind) = stops.Fault (fault_on line kind)
 stop_at line stops.Memory = stops.Memory
 
--- what a line is read as, where its fault gets the line's number
+-- what a line is read as, where a fault gets the line's number
 abbrev pub on_line : {V K : Type 0} → ℕ → Result V K → Result V (Fault K)
 on_line line (Ok value) = Ok value
-on_line line (Err kind) = Err (record { line = line; kind = kind })
+on_line line (Err kind) = Err (fault_on line kind)

@@ -9,6 +9,7 @@ pub mod hex;
 pub mod items;
 pub mod lines;
 pub mod names;
+pub mod number_lists;
 pub mod numbers;
 pub mod print;
 pub mod stop;
