@@ -1,0 +1,7 @@
+//! Graphs as texts: `read_graph`.
+//!
+//! What a line says stands in `specs/Line.antt`, what a text says in `specs/Text.antt`, and what holds of each graph that
+//! is read in `specs/Graph.antt`. Read `Graph` first.
+#![tactic(auto)]
+
+pub mod graph;
