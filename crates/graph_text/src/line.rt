@@ -1,9 +1,11 @@
 //! One line of a graph.
 
-ghost use Rattle.std.specs.Prelude.{◌≡◌, IfOk, ◌&&◌};
+ghost use Rattle.std.specs.Prelude.{◌≡◌, ◌&&◌, [], IfOk, MatchResult};
 ghost use Rattle.tn_text.specs.Gives.{Gives};
 ghost use Rattle.tn_text.specs.Numbers.{number_of};
-ghost use Rattle.tn_text.specs.Words.{words_of};
+ghost use Rattle.tn_text.specs.Words.{StartsWord, words_of};
+ghost use Rattle.tn_text.specs.declared.stop.Stop.TheVariants as Stop;
+ghost use Rattle.graph_text.specs.declared.graph.GraphKind.TheVariants as GraphKind;
 ghost use Rattle.graph_text.specs.Line.{content_line, edge_line, given as given_of, head_line, head_with, kind_line, kind_with, pair_of, value_in, vertex_line, within as is_within};
 
 use crate::graph::GraphKind;
@@ -74,44 +76,48 @@ fn within(least: u32, most: u32, n: u32) -> bool
 }
 
 /// The numbers of a line that has its form but for them.
-fn given<V: Drop>(fits: bool, numbers: Numeral<V>) -> Result<V, GraphKind>
-    ensures { result ≡ given_of fits numbers }
+fn given<V: Drop>(fits: bool, numbers: Numeral<V>) -> Result<V, LineStop>
+    ensures { Gives result (given_of fits numbers) }
 {
     if !fits {
-        return Err(GraphKind::BadLine);
+        return Err(Stop::Fault(GraphKind::BadLine));
     }
     match numbers {
         Numeral::Value(numbers) => Ok(numbers),
-        Numeral::TooLarge => Err(GraphKind::BadNumber),
-        Numeral::NoNumber => Err(GraphKind::BadLine),
+        Numeral::TooLarge => Err(Stop::Fault(GraphKind::BadNumber)),
+        Numeral::NoNumber => Err(Stop::Fault(GraphKind::BadLine)),
+    }
+}
+
+/// The first word, and what comes after it. A form that wants one more word is not that of a line without it.
+fn next_word(line: &[u8]) -> Result<(&[u8], &[u8]), LineStop>
+    ensures { MatchResult result (λ r. StartsWord line.now r.0.now r.1.now)
+        (λ stop. (words_of line.now ≡ []) × (stop ≡ Stop.Fault GraphKind.BadLine)) }
+{
+    match first_word(line) {
+        Some(parts) => Ok(parts),
+        None => Err(Stop::Fault(GraphKind::BadLine)),
     }
 }
 
 /// What the graph's line says.
-pub(crate) fn read_head(content: &[u8]) -> Result<Head, GraphKind>
-    ensures { result ≡ head_line (words_of content.now) }
+pub(crate) fn read_head(content: &[u8]) -> Result<Head, LineStop>
+    ensures { Gives result (head_line (words_of content.now)) }
 {
-    let Some((word, rest)) = first_word(content) else {
-        return Err(GraphKind::BadLine);
-    };
+    let (word, rest) = next_word(content)?;
     let [flits, per_thread] = given(word == b"graph".as_slice(), numbers::<2>(rest))?;
     if within(1, 8, flits) && within(1, 64, per_thread) {
         Ok(Head { flits, per_thread })
     } else {
-        Err(GraphKind::BadNumber)
+        Err(Stop::Fault(GraphKind::BadNumber))
     }
 }
 
 fn read_kind(alloc: Global, rest: &[u8]) -> Result<GraphLine, LineStop>
     ensures { Gives result (kind_line (words_of rest.now)) }
 {
-    let Some((name, rest)) = first_word(rest) else {
-        return Err(Stop::Fault(GraphKind::BadLine));
-    };
-    let [pins, words] = match given(is_name(name), numbers::<2>(rest)) {
-        Ok(numbers) => numbers,
-        Err(kind) => return Err(Stop::Fault(kind)),
-    };
+    let (name, rest) = next_word(rest)?;
+    let [pins, words] = given(is_name(name), numbers::<2>(rest))?;
     if pins > 4 || !within(1, 16, words) {
         return Err(Stop::Fault(GraphKind::BadNumber));
     }
@@ -122,16 +128,9 @@ fn read_kind(alloc: Global, rest: &[u8]) -> Result<GraphLine, LineStop>
 fn read_vertex(alloc: Global, rest: &[u8]) -> Result<GraphLine, LineStop>
     ensures { Gives result (vertex_line (words_of rest.now)) }
 {
-    let Some((name, rest)) = first_word(rest) else {
-        return Err(Stop::Fault(GraphKind::BadLine));
-    };
-    let Some((kind, rest)) = first_word(rest) else {
-        return Err(Stop::Fault(GraphKind::BadLine));
-    };
-    let words = match given(is_name(name) && is_name(kind), word_values(alloc, rest)?) {
-        Ok(words) => words,
-        Err(kind) => return Err(Stop::Fault(kind)),
-    };
+    let (name, rest) = next_word(rest)?;
+    let (kind, rest) = next_word(rest)?;
+    let words = given(is_name(name) && is_name(kind), word_values(alloc, rest)?)?;
     let name = name_of(alloc, name)?;
     let kind = name_of(alloc, kind)?;
     Ok(GraphLine::Vertex(VertexLine { name, kind, words }))
@@ -163,20 +162,11 @@ fn pair(first: Numeral<u32>, second: Numeral<u32>) -> Numeral<(u32, u32)>
 fn read_edge(alloc: Global, rest: &[u8]) -> Result<GraphLine, LineStop>
     ensures { Gives result (edge_line (words_of rest.now)) }
 {
-    let Some((from, rest)) = first_word(rest) else {
-        return Err(Stop::Fault(GraphKind::BadLine));
-    };
-    let Some((pin, rest)) = first_word(rest) else {
-        return Err(Stop::Fault(GraphKind::BadLine));
-    };
-    let Some((to, rest)) = first_word(rest) else {
-        return Err(Stop::Fault(GraphKind::BadLine));
-    };
+    let (from, rest) = next_word(rest)?;
+    let (pin, rest) = next_word(rest)?;
+    let (to, rest) = next_word(rest)?;
     let numbers = pair(number(pin), read_value(rest));
-    let (pin, value) = match given(is_name(from) && is_name(to), numbers) {
-        Ok(numbers) => numbers,
-        Err(kind) => return Err(Stop::Fault(kind)),
-    };
+    let (pin, value) = given(is_name(from) && is_name(to), numbers)?;
     let from = name_of(alloc, from)?;
     let to = name_of(alloc, to)?;
     Ok(GraphLine::Edge(EdgeLine {
@@ -191,9 +181,7 @@ fn read_edge(alloc: Global, rest: &[u8]) -> Result<GraphLine, LineStop>
 pub(crate) fn read_line(alloc: Global, content: &[u8]) -> Result<GraphLine, LineStop>
     ensures { Gives result (content_line content.now) }
 {
-    let Some((word, rest)) = first_word(content) else {
-        return Err(Stop::Fault(GraphKind::BadLine));
-    };
+    let (word, rest) = next_word(content)?;
     if word == b"kind".as_slice() {
         return read_kind(alloc, rest);
     }
