@@ -1,3 +1,4 @@
 pub mod Graph
 pub mod Line
 pub mod Text
+pub mod Draft

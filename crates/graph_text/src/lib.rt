@@ -4,5 +4,8 @@
 //! is read in `specs/Graph.antt`. Read `Graph` first.
 #![tactic(auto)]
 
+mod draft;
 pub mod graph;
 mod line;
+mod names;
+pub mod read;
