@@ -6,7 +6,7 @@ use Rattle.tn_text.specs.declared.numbers.Numeral.{Numeral}
 use Rattle.tn_text.specs.declared.numbers.Numeral.TheVariants.{Value, TooLarge, NoNumber}
 use Rattle.tn_text.specs.Names.{is_name}
 use Rattle.tn_text.specs.Numbers.{number_of}
-use Rattle.tn_text.specs.NumberLists.{numbers_in, numbers_of, word_values_of}
+use Rattle.tn_text.specs.NumberLists.{numbers_in, word_values_of}
 use Rattle.tn_text.specs.Words.{words_of}
 use Rattle.graph_text.specs.declared.graph.GraphKind.{GraphKind}
 use Rattle.graph_text.specs.declared.graph.GraphKind.TheVariants.{BadLine, BadNumber}

@@ -1,5 +1,5 @@
 -- What a text says: a graph is what its lines say, in order.
-use Rattle.std.specs.Prelude.{ℕ, ◌+◌, ◌-◌, ◌==◌, ◌&&◌, nat_le, nat_lt, Bool, List, [], ◌∷◌, ◌++◌, length, map, replicate, position, is_some, if◌then◌else◌, Option, Some, None, bytes_eq}
+use Rattle.std.specs.Prelude.{ℕ, ◌+◌, ◌-◌, ◌==◌, ◌&&◌, nat_le, nat_lt, List, [], ◌∷◌, ◌++◌, length, map, replicate, position, is_some, if◌then◌else◌, Option, Some, None, bytes_eq}
 use Rattle.std.specs.declared.result.Result.{Result}
 use Rattle.std.specs.declared.result.Result.TheVariants.{Ok, Err}
 use Rattle.tn_text.specs.declared.stop.Fault.{Fault}
@@ -9,10 +9,9 @@ use Rattle.tn_text.specs.Reading.{line_says, built_from}
 use Rattle.tn_text.specs.Words.{words_of}
 use Rattle.graph_text.specs.declared.graph.KindRow.{KindRow}
 use Rattle.graph_text.specs.declared.graph.VertexRow.{VertexRow}
-use Rattle.graph_text.specs.declared.graph.EdgeRow.{EdgeRow}
 use Rattle.graph_text.specs.declared.graph.Graph.{Graph}
 use Rattle.graph_text.specs.declared.graph.GraphKind.{GraphKind}
-use Rattle.graph_text.specs.declared.graph.GraphKind.TheVariants.{BadLine, BadNumber, Twice, NoKind, NoVertex, NoPin, TooMany}
+use Rattle.graph_text.specs.declared.graph.GraphKind.TheVariants.{BadLine, Twice, NoKind, NoVertex, NoPin, TooMany}
 use Rattle.graph_text.specs.declared.line.KindLine.{KindLine}
 use Rattle.graph_text.specs.declared.line.VertexLine.{VertexLine}
 use Rattle.graph_text.specs.declared.line.EdgeLine.{EdgeLine}

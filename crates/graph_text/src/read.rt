@@ -1,8 +1,9 @@
 //! Reading a graph.
 
-ghost use Rattle.std.specs.Prelude.{◌≡◌, ◌+◌, ◌<◌, ◌^◌, length};
+ghost use Rattle.std.specs.Prelude.{◌≡◌, ◌+◌, ◌<◌, ◌^◌, length, IfOk};
 ghost use Rattle.tn_text.specs.Gives.{Gives};
 ghost use Rattle.tn_text.specs.Lines.{lines_of};
+ghost use Rattle.graph_text.specs.Graph.{IsGraph};
 ghost use Rattle.graph_text.specs.Text.{graph_of, head_of};
 
 use crate::draft::Draft;
@@ -22,11 +23,9 @@ fn head(line: &[u8]) -> Result<Head, LineStop>
     read_head(content(line))
 }
 
-/// The graph that a text says, the first line being the graph's, `graph FLITS PER`, with the number `first`.
-pub fn read_graph(alloc: Global, lines: &[u8], first: u32) -> Result<Graph, GraphStop>
+fn read(alloc: Global, lines: &[u8], first: u32) -> Result<Graph, GraphStop>
     requires { first + length (lines_of lines.now) < 2 ^ 32 }
-    // The graph that the lines say, or the first line at fault with the first kind that applies there.
-    ensures read { Gives result (graph_of first (lines_of lines.now)) }
+    ensures { Gives result (graph_of first (lines_of lines.now)) }
 {
     let Some((front, mut rest)) = first_line(lines) else {
         return Err(Stop::Fault(GraphKind::BadLine).at(first));
@@ -45,4 +44,15 @@ pub fn read_graph(alloc: Global, lines: &[u8], first: u32) -> Result<Graph, Grap
         rest = after;
     }
     draft.finish(first)
+}
+
+/// The graph that a text says. Its first line is the graph's, `graph FLITS PER`, whose number is `first`.
+pub fn read_graph(alloc: Global, lines: &[u8], first: u32) -> Result<Graph, GraphStop>
+    requires { first + length (lines_of lines.now) < 2 ^ 32 }
+    // The graph that the lines say, or the first line at fault with the first kind that applies there.
+    ensures read { Gives result (graph_of first (lines_of lines.now)) }
+    // So its rows name rows that are there, and all numbers are within their limits.
+    ensures fits { IfOk result (λ graph. IsGraph graph) }
+{
+    read(alloc, lines, first)
 }

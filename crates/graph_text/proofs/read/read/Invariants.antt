@@ -4,7 +4,7 @@ use Rattle.tn_text.specs.Reading.{built_from, line_says}
 use Rattle.graph_text.specs.declared.graph.GraphKind.TheVariants.{BadLine}
 use Rattle.graph_text.specs.Line.{content_line}
 use Rattle.graph_text.specs.Text.{graph_of, line_added, whole_of}
-use Rattle.graph_text.proofs.read.read_graph.Given as goal
+use Rattle.graph_text.proofs.read.read.Given as goal
 
 abbrev pub invariant-loop-line : goal.invariant-loop-line
 invariant-loop-line l = record {
