@@ -9,3 +9,5 @@ pub mod graph;
 mod line;
 mod names;
 pub mod read;
+#[cfg(test)]
+mod tests;
