@@ -1,4 +1,3 @@
-pub mod Says
 pub mod LineFits
 pub mod Grows
 pub mod Sound

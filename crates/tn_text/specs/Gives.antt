@@ -1,7 +1,8 @@
 -- What a reader answers, where memory may be wanting.
-use Rattle.std.specs.Prelude.{◌≡◌, ℕ, Option, Some, None}
+use Rattle.std.specs.Prelude.{◌≡◌, ℕ, List, Option, Some, None}
 use Rattle.std.specs.declared.result.Result.{Result}
 use Rattle.std.specs.declared.result.Result.TheVariants.{Ok, Err}
+use Rattle.std.specs.declared.vec.Vec.{Vec}
 use Rattle.tn_text.specs.declared.stop.Fault.{Fault}
 use Rattle.tn_text.specs.declared.stop.Stop.{Stop}
 use Rattle.tn_text.specs.declared.stop.Stop.TheVariants as stops
@@ -23,6 +24,10 @@ fault_in stops.Memory = None
 -- the same of an answer whose value is seen as the definition's
 abbrev pub Gives : {V F : Type 0} → Result V (Stop F) → Result V F → Type 0
 Gives result read = GivesBy (λ x. x) fault_in result read
+
+-- the same of an answer that is a vector
+abbrev pub GivesItems : {X A F : Type 0} → Result (Vec X A) (Stop F) → Result (List X) F → Type 0
+GivesItems result read = GivesBy (λ v. v.items) fault_in result read
 
 -- a value became what the definition makes of it, unless memory ran out or it is refused
 abbrev pub Becomes : {X V F : Type 0} → Result X (Stop F) → V → Result V F → Type 0

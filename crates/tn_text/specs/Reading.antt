@@ -30,6 +30,12 @@ abbrev pub read_from : {A K : Type 0} → (ℕ → List ℕ → Result (Option A
 read_from says number [] = Ok []
 read_from says number (l ∷ ls) = said_before number (says number l) (read_from says (number + 1) ls)
 
+-- items with what one more line says behind them
+abbrev pub said_onto : {A K : Type 0} → List A → Result (Option A) K → Result (List A) K
+said_onto items (Ok (Some a)) = Ok (items ++ a ∷ [])
+said_onto items (Ok None) = Ok items
+said_onto items (Err kind) = Err kind
+
 abbrev pub taken_by : {S A K : Type 0} → (ℕ → A → S → Result S K) → ℕ → S → Result (Option A) K → Result S K
 taken_by takes number s (Ok (Some a)) = takes number a s
 taken_by takes number s (Ok None) = Ok s

@@ -11,6 +11,10 @@ is_some_text (b ∷ bs) = true
 abbrev pub words_of : List ℕ → List (List ℕ)
 words_of line = filter is_some_text (slice_split is_space line)
 
+-- a word behind another, as texts are printed
+abbrev pub spaced : List ℕ → List ℕ
+spaced word = 32 ∷ word
+
 -- the word goes up to the first space behind the spaces at the front, and the rest begins there
 pub record StartsWord (line word rest : List ℕ) : Type 0 where
   pub word_is : word ≡ before_first is_space (without_front_spaces line)

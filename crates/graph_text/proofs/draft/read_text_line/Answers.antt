@@ -2,7 +2,7 @@ use Rattle.std.proofs.Common.{arith}
 use Rattle.std.proofs.lemmas.Grind.{common_steps}
 use Rattle.graph_text.specs.declared.graph.GraphKind.TheVariants as GraphKind
 use Rattle.graph_text.specs.Line.{content_line}
-use Rattle.graph_text.proofs.Says.{line_said}
+use Rattle.tn_text.proofs.Says.{line_said}
 use Rattle.graph_text.proofs.draft.read_text_line.Goals as goal
 
 pub returns : goal.returns
