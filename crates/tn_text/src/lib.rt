@@ -6,8 +6,11 @@
 
 pub mod content;
 pub mod hex;
+pub mod items;
 pub mod lines;
 pub mod names;
+pub mod number_lists;
 pub mod numbers;
 pub mod print;
+pub mod stop;
 pub mod words;

@@ -1,0 +1,3 @@
+pub mod LineFits
+pub mod Grows
+pub mod Sound
