@@ -8,3 +8,5 @@
 mod call_tests;
 #[cfg(test)]
 mod io_tests;
+#[cfg(test)]
+mod print_tests;
