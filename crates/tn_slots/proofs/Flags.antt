@@ -1,18 +1,18 @@
 -- The flags of a pool's free slots, after each operation.
-use Rattle.std.proofs.Common.{ℕ, ◌+◌, ◌<◌, ◌≤◌, ◌≡◌, ◌==◌, ◌&&◌, ◌↔◌, Bool, true, false, cond, not, IsTrue, List, [], ◌∷◌, length, set, map, suc, refl, sym, ◌∙◌, ap, inl, inr, arith, replicate, zero}
+use Rattle.std.proofs.Common.{ℕ, ◌+◌, ◌<◌, ◌≤◌, ◌≡◌, ◌==◌, ◌&&◌, ◌↔◌, Bool, true, false, cond, not, IsTrue, List, [], ◌∷◌, length, get_or, get_or, set, map, suc, refl, sym, ◌∙◌, ap, inl, inr, arith, replicate, zero}
 use Rattle.std.specs.Int.{bit_at}
 use Rattle.std.specs.List.{position, prefix_len}
 use Rattle.std.proofs.lemmas.Nat.Bits.{bit_at-zero}
 use Rattle.std.proofs.lemmas.Bool.{cases_eq, ne_eqb}
-use Rattle.std.proofs.lemmas.List.{length-map}
+use Rattle.std.proofs.lemmas.List.{get_or-map, length-map}
 use Rattle.std.proofs.Math.Seq.{map-set_same}
 use Rattle.tn_base.proofs.Masks.{with_same}
 use Rattle.tn_slots.specs.declared.slot.Slot.{Slot}
 use Rattle.tn_slots.specs.PoolModel.{PoolModel}
 use Rattle.tn_slots.specs.Slot.{empty_slot, fresh_slot, is_free, taken_slot}
-use Rattle.tn_slots.specs.Pool.{queue_at, slot_at}
+use Rattle.tn_slots.specs.Pool.{Holds, queue_at, slot_at}
 use Rattle.tn_slots.specs.WellKept.{WellKept}
-use Rattle.tn_slots.proofs.Kept.{first_owed}
+use Rattle.tn_slots.proofs.Kept.{first_owed, held_within}
 
 prefix_map : {X : Type 0} (f : X → Bool) (xs : List X) → prefix_len (λ (b : Bool). not b) (map f xs) ≡ prefix_len (λ x. not (f x)) xs
 prefix_map f [] = refl
@@ -55,3 +55,7 @@ put_flag bytes mask false e = elim (cases_eq mask 0) [
 pub fresh_flags : (n : ℕ) → replicate n true ≡ map is_free (replicate n fresh_slot)
 fresh_flags zero = refl
 fresh_flags (suc n) = ap (λ xs. true ∷ xs) (fresh_flags n)
+
+-- a slot that a thread holds is not free
+pub held_flag : (p : PoolModel) (t s : ℕ) → Holds p t s → get_or (map is_free p.slots) s false ≡ false
+held_flag p t s held = get_or-map is_free p.slots s empty_slot false (held_within p t s held) ∙ held_busy (slot_at p s) t held

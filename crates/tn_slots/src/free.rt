@@ -1,6 +1,6 @@
 //! The slots of a pool that are free.
 
-ghost use Rattle.std.specs.Prelude.{◌≡◌, ◌≤◌, ◌<◌, ℕ, Bool, true, length, position, replicate, slice_set, IfSome};
+ghost use Rattle.std.specs.Prelude.{◌≡◌, ◌≤◌, ◌<◌, ℕ, Bool, false, true, length, position, replicate, slice_index_or, slice_set, IfSome};
 ghost use Rattle.tn_slots.specs.Free.{WordsFit};
 
 use crate::bits::{lowest_bit, write_bit};
@@ -50,6 +50,18 @@ impl FreeSlots {
     {
         let word = self.words[s / 64];
         self.words[s / 64] = write_bit(word, (s % 64) as u32, free);
+    }
+
+    /// Notes a slot that was used as free, where it is free now.
+    #[inline(always)]
+    pub(crate) fn insert_if(&mut self, s: usize, free: bool)
+        requires slot { s < length self.old }
+        requires used { slice_index_or self.old s false ≡ false }
+        ensures { self.new ≡ slice_set self.old s free }
+    {
+        if free {
+            self.set(s, true);
+        }
     }
 
     /// The least free slot: the lowest bit of the first word that is not zero.

@@ -117,7 +117,7 @@ impl Pool {
         let held = &mut self.slots[slot as usize];
         held.holders = held.holders.without(t);
         let free = held.is_free();
-        self.free.set(slot as usize, free);
+        self.free.insert_if(slot as usize, free);
         Ok(())
     }
 
