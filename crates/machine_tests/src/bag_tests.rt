@@ -449,11 +449,11 @@ fn spells(alloc: Global, job: &[u8], events: &[Event], steps: &[Steps]) -> Resul
     if !replay(&mut end, events)? {
         return Err(Fail::from("the events are no run"));
     }
+    let found = bag_of(alloc, &start, events)?;
     let mut expected = Vec::new(alloc);
     for one in steps {
         push_steps(&mut expected, one)?;
     }
-    let found = bag_of(alloc, &start, events)?;
     Ok(found == expected)
 }
 

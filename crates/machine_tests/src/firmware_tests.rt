@@ -63,11 +63,11 @@ const TWO: ShapeNumbers = ShapeNumbers {
     turn: 16,
 };
 
-/// What a step asks of the tile; of a message only where it goes.
+/// What a step asks of the tile; of a message where it goes and how many bytes it has.
 #[derive(Clone, Copy, PartialEq, Eq, Debug)]
 enum Asks {
     Nothing,
-    Send(Dest),
+    Send(Dest, usize),
     Hand,
     Free(u16),
     Idle(bool),
@@ -79,7 +79,7 @@ enum Asks {
 fn asked(op: &Op) -> Asks {
     match op {
         Op::None => Asks::Nothing,
-        Op::Send(dest, _) => Asks::Send(*dest),
+        Op::Send(dest, message) => Asks::Send(*dest, message.as_slice().len()),
         Op::Hand => Asks::Hand,
         Op::Free(slot) => Asks::Free(*slot),
         Op::Idle(vote) => Asks::Idle(*vote),
@@ -88,13 +88,16 @@ fn asked(op: &Op) -> Asks {
     }
 }
 
-/// What a thread has become in one step: what the step asked, what the thread does, its address, and what was read into x5.
+/// What a thread has become in one step: what the step asked, what the thread does, its address, what was read into x5, and
+/// how many steps and sends it has made.
 #[derive(Clone, Copy, PartialEq, Eq, Debug)]
 struct Became {
     asks: Asks,
     state: ThreadState,
     pc: u32,
     read: u32,
+    steps: u32,
+    sends: u32,
 }
 
 fn look_at(thread: &Thread, op: &Op) -> Became {
@@ -103,6 +106,8 @@ fn look_at(thread: &Thread, op: &Op) -> Became {
         state: *thread.state(),
         pc: thread.pc(),
         read: thread.regs().get(5),
+        steps: thread.steps(),
+        sends: thread.sends(),
     }
 }
 
@@ -162,6 +167,8 @@ const RUNS: Became = Became {
     state: ThreadState::Run,
     pc: FIRMWARE,
     read: 0,
+    steps: 1,
+    sends: 0,
 };
 
 /// A command, whether no send is pending, the first slot of the queue, and what the thread becomes.
@@ -201,7 +208,8 @@ const COMMANDS: [Case; 16] = [
         true,
         None,
         Became {
-            asks: Asks::Send(Dest::Key(258)),
+            asks: Asks::Send(Dest::Key(258), 16),
+            sends: 1,
             ..RUNS
         },
     ),
@@ -211,7 +219,8 @@ const COMMANDS: [Case; 16] = [
         true,
         None,
         Became {
-            asks: Asks::Send(Dest::Host),
+            asks: Asks::Send(Dest::Host, 16),
+            sends: 1,
             ..RUNS
         },
     ),
