@@ -6,6 +6,7 @@
 
 pub mod command;
 mod forms;
+pub mod laws;
 mod numbers;
 mod parsers;
 pub mod read;
