@@ -32,7 +32,7 @@ pub record IsSoFar (graph : Graph) : Type 0 where
   pub vertices : All (IsVertex graph) graph.vertices
   pub edges : All (IsEdge graph) graph.edges
 
-get_left : {A : Type 0} (xs ys : List A) (k : ℕ) → k < length xs → slice_get (xs ++ ys) k ≡ slice_get xs k
+pub get_left : {A : Type 0} (xs ys : List A) (k : ℕ) → k < length xs → slice_get (xs ++ ys) k ≡ slice_get xs k
 get_left [] ys k h = absurd (omega arith)
 get_left (x ∷ xs) ys zero h = refl
 get_left (x ∷ xs) ys (suc k) h = get_left xs ys k (omega arith)
@@ -113,7 +113,7 @@ padded_length count words h = omega (arith, length-append words (replicate (coun
 place_below : (name : List ℕ) (names : List (List ℕ)) (i : ℕ) → place_of name names ≡ Some i → i < length names
 place_below name names i e = (position-Some (bytes_eq name) names i [] e).0
 
-kind_below : (g : Graph) (name : List ℕ) (i : ℕ) → place_of name (kind_names g) ≡ Some i → i < length g.kinds
+pub kind_below : (g : Graph) (name : List ℕ) (i : ℕ) → place_of name (kind_names g) ≡ Some i → i < length g.kinds
 kind_below g name i e = omega (arith, place_below name (kind_names g) i e, length-map g.kinds (λ (row : KindRow). row.name))
 
 vertex_below : (g : Graph) (name : List ℕ) (i : ℕ) → place_of name (vertex_names g) ≡ Some i → i < length g.vertices

@@ -1,3 +1,4 @@
 pub mod LineFits
 pub mod Grows
 pub mod Sound
+pub mod Saying

@@ -2,4 +2,5 @@ pub mod Graph
 pub mod Line
 pub mod Text
 pub mod Draft
+pub mod Rows
 pub use Rattle.tn_text.specs.Gives

@@ -4,6 +4,7 @@ ghost use Rattle.std.specs.Prelude.{◌≡◌, ◌+◌, ◌<◌, ◌^◌, length
 ghost use Rattle.tn_text.specs.Gives.{Gives};
 ghost use Rattle.tn_text.specs.Lines.{lines_of};
 ghost use Rattle.graph_text.specs.Graph.{IsGraph};
+ghost use Rattle.graph_text.specs.Rows.{IsSaid, said_lines};
 ghost use Rattle.graph_text.specs.Text.{graph_of, head_of};
 
 use crate::draft::Draft;
@@ -51,6 +52,8 @@ pub fn read_graph(alloc: Global, lines: &[u8], first: u32) -> Result<Graph, Grap
     requires { first + length (lines_of lines.now) < 2 ^ 32 }
     // The graph that the lines say, or the first line at fault with the first kind that applies there.
     ensures read { Gives result (graph_of first (lines_of lines.now)) }
+    // Each line of a kind, a vertex or an edge gives one row, in order, and the names are those of rows of the graph.
+    ensures says { IfOk result (λ graph. IsSaid graph (said_lines first (lines_of lines.now))) }
     // So its rows name rows that are there, and all numbers are within their limits.
     ensures fits { IfOk result (λ graph. IsGraph graph) }
 {
