@@ -2,3 +2,4 @@ pub mod FirstLine
 pub mod FirstWord
 pub mod Digits
 pub mod Printed
+pub mod Joined

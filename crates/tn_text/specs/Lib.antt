@@ -2,5 +2,8 @@ pub mod Lines
 pub mod Content
 pub mod Words
 pub mod Numbers
+pub mod NumberLists
 pub mod Names
 pub mod Hex
+pub mod Gives
+pub mod Reading

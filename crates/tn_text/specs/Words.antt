@@ -1,5 +1,5 @@
 -- The words of a line.
-use Rattle.std.specs.Prelude.{◌≡◌, ℕ, ◌<◌, Bool, true, false, List, [], ◌∷◌, length, drop, filter}
+use Rattle.std.specs.Prelude.{◌≡◌, ℕ, ◌<◌, Bool, true, false, List, [], ◌∷◌, length, drop, filter, Option, Some, None}
 use Rattle.std.specs.List.{before_first, slice_split}
 use Rattle.tn_text.specs.Content.{is_space, without_front_spaces}
 
@@ -17,3 +17,17 @@ pub record StartsWord (line word rest : List ℕ) : Type 0 where
   pub rest_is : rest ≡ drop (length word) (without_front_spaces line)
   pub words : words_of line ≡ word ∷ words_of rest
   pub shorter : length rest < length line
+
+-- the words, where there are exactly so many
+
+abbrev pub one_of : List (List ℕ) → Option (List ℕ)
+one_of (a ∷ []) = Some a
+one_of _ = None
+
+abbrev pub two_of : List (List ℕ) → Option (List ℕ × List ℕ)
+two_of (a ∷ b ∷ []) = Some (a, b)
+two_of _ = None
+
+abbrev pub three_of : List (List ℕ) → Option (List ℕ × List ℕ × List ℕ)
+three_of (a ∷ b ∷ c ∷ []) = Some (a, b, c)
+three_of _ = None

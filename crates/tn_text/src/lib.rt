@@ -6,10 +6,11 @@
 
 pub mod content;
 pub mod hex;
+pub mod items;
 pub mod lines;
 pub mod names;
+pub mod number_lists;
 pub mod numbers;
 pub mod print;
-#[cfg(test)]
-mod tests;
+pub mod stop;
 pub mod words;

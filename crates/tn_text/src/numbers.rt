@@ -1,7 +1,7 @@
 //! The numbers of texts.
 
 ghost use Rattle.std.specs.Prelude.{◌≡◌, ◌≤◌};
-ghost use Rattle.tn_text.specs.Numbers.{numeral_of, decimal_of, number_of, signed_number_of, signed_decimal_of, positive as positive_of, negative as negative_of};
+ghost use Rattle.tn_text.specs.Numbers.{numeral_of, decimal_of, number_of, signed_number_of, signed_decimal_of, word_value_of, positive as positive_of, negative as negative_of, minus};
 
 /// What a text is as a number.
 #[derive(Clone, Copy, PartialEq, Eq, Debug)]
@@ -93,5 +93,25 @@ pub fn signed_decimal(text: &[u8]) -> Numeral<i64>
     match text {
         [b'-', digits @ ..] => negative(decimal(digits)),
         _ => positive(decimal(text)),
+    }
+}
+
+fn minus(number: Numeral<u32>) -> Numeral<u32>
+    ensures { result ≡ minus number }
+{
+    match number {
+        Numeral::Value(size) if size <= 1 << 31 => Numeral::Value(size.wrapping_neg()),
+        Numeral::Value(_) | Numeral::TooLarge => Numeral::TooLarge,
+        Numeral::NoNumber => Numeral::NoNumber,
+    }
+}
+
+/// A word of 32 bits: a number, or a decimal number with a leading `-` in two's complement.
+pub fn word_value(text: &[u8]) -> Numeral<u32>
+    ensures { result ≡ word_value_of text.now }
+{
+    match text {
+        [b'-', digits @ ..] => minus(decimal(digits)),
+        _ => number(text),
     }
 }

@@ -1,0 +1,4 @@
+pub mod Says
+pub mod LineFits
+pub mod Grows
+pub mod Sound

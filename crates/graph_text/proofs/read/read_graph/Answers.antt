@@ -1,0 +1,6 @@
+use Rattle.tn_text.specs.Lines.{lines_of}
+use Rattle.graph_text.proofs.Sound.{gives_fits}
+use Rattle.graph_text.proofs.read.read_graph.Goals as goal
+
+pub returns-clause-fits : goal.returns-clause-fits
+returns-clause-fits c = gives_fits c.args.first (lines_of c.args.lines.now) c.read.result c.read.ensures

@@ -1,0 +1,5 @@
+pub mod Graph
+pub mod Line
+pub mod Text
+pub mod Draft
+pub use Rattle.tn_text.specs.Gives
