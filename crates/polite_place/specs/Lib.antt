@@ -1,3 +1,4 @@
 pub mod Order
+pub mod Outs
 pub mod Scan
 pub mod Seats

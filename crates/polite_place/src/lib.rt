@@ -5,4 +5,5 @@
 
 pub mod laws;
 mod order;
+mod outs;
 pub mod placement;

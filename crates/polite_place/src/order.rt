@@ -28,6 +28,23 @@ impl OutList {
     {
         self.targets.as_slice()
     }
+
+    /// A list without vertices.
+    pub(crate) fn new(alloc: Global) -> OutList
+        ensures { result ≡ [] }
+    {
+        OutList {
+            targets: Vec::new(alloc),
+        }
+    }
+
+    /// Appends a vertex.
+    pub(crate) fn push(&mut self, vertex: u32) -> Result<(), AllocError>
+        ensures { IfOk result (λ _. self.new ≡ self.old ++ vertex ∷ []) }
+    {
+        self.targets.push(vertex)?;
+        Ok(())
+    }
 }
 
 /// Puts a vertex at the end of the order, if it was not met.

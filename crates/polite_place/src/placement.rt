@@ -3,9 +3,14 @@
 ghost use Rattle.std.specs.Prelude.{◌≡◌, ◌≤◌, ◌<◌, ◌+◌, ◌-◌, ◌*◌, ◌/◌, ◌%◌, ◌^◌, List, ℕ, length, IfOk, slice_index_or};
 ghost use Rattle.tn_base.specs.Shape.{WithinLimits, thread_count};
 ghost use Rattle.polite_place.specs.Order.{AllListsBelow, Once, bfs};
+ghost use Rattle.graph_text.specs.Graph.{IsGraph};
+ghost use Rattle.polite_place.specs.Outs.{outs_of};
 ghost use Rattle.polite_place.specs.Seats.{Places, Seated, placed, seat, seat_at, seat_of, seats};
 
+use crate::laws::law_seats;
 use crate::order::{OutList, breadth_first};
+use crate::outs::outs_of;
+use graph_text::graph::Graph;
 use std::alloc::{AllocError, Global};
 use std::marker::Model;
 use tn_base::ids::ThreadId;
@@ -97,7 +102,7 @@ fn take_seats(shape: &Shape, order: &[u32], share: usize, seats: &mut [Seat])
 
 /// Places the vertices in breadth-first order: each thread by ascending address takes the next of them, as many as each
 /// has to take where all take the same.
-pub fn place_outs(
+fn place_outs(
     alloc: Global,
     shape: &Shape,
     outs: &[OutList],
@@ -122,4 +127,16 @@ pub fn place_outs(
     let share = (count + threads - 1) / threads;
     take_seats(shape, order.as_slice(), share, list.as_mut_slice());
     Ok(Placement { seats: list })
+}
+
+/// Places the vertices of a graph in breadth-first order, over out-edges in order of lines. The work grows with the vertices
+/// and edges.
+pub fn place(alloc: Global, graph: &Graph, shape: &Shape) -> Result<Placement, PlaceStop>
+    requires { IsGraph graph.now }
+    ensures answer { Places result (placed shape.now graph.now.per_thread (outs_of graph.now)) }
+    ensures seated { IfOk result (λ p. Seated shape.now graph.now.per_thread p) }
+{
+    let outs = outs_of(alloc, graph)?;
+    law_seats(shape);
+    place_outs(alloc, shape, outs.as_slice(), graph.per_thread)
 }
