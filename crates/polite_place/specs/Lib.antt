@@ -1,0 +1,4 @@
+pub mod Order
+pub mod Outs
+pub mod Scan
+pub mod Seats
