@@ -14,7 +14,7 @@ use Rattle.graph_text.specs.declared.line.GraphLine.{GraphLine}
 use Rattle.graph_text.specs.declared.line.GraphLine.TheVariants.{Kind, Vertex, Edge}
 use Rattle.graph_text.specs.declared.line.Head.{Head}
 
--- The numbers of a line of this form. A line that is no number's, or of another form, is worse than a number that is too large
+-- the numbers of a line, if the rest of it has its form. No number, or another form, is worse than a number that is too large
 abbrev pub given : {V : Type 0} → Bool → Numeral V → Result V GraphKind
 given true (Value v) = Ok v
 given true TooLarge = Err BadNumber

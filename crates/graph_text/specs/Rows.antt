@@ -27,7 +27,7 @@ numbered number (Err kind) = Err kind
 abbrev pub numbered_line : ℕ → List ℕ → Result (Option (ℕ × GraphLine)) GraphKind
 numbered_line number line = numbered number (line_says BadLine content_line line)
 
--- what the lines behind the graph's line say
+-- what the lines after the graph's line say
 abbrev pub said_lines : ℕ → List (List ℕ) → Result (List (ℕ × GraphLine)) (Fault GraphKind)
 said_lines first [] = Ok []
 said_lines first (l ∷ ls) = read_from numbered_line (first + 1) ls

@@ -1,7 +1,7 @@
 //! A graph that is being read.
 
 ghost use Rattle.std.specs.Prelude.{◌≡◌, ◌≤◌, length, IfOk};
-ghost use Rattle.tn_text.specs.Gives.{Gives, on_line};
+ghost use Rattle.tn_text.specs.Gives.{Gives};
 ghost use Rattle.tn_text.specs.Reading.{line_says, taken_by};
 ghost use Rattle.graph_text.specs.declared.graph.GraphKind.TheVariants as GraphKind;
 ghost use Rattle.graph_text.specs.Line.{content_line};
@@ -44,7 +44,7 @@ impl Model for Draft {
     ghost invariant = { λ d. IsIndexed d.graph d.kind_names d.vertex_names };
 }
 
-/// The words, with zeros behind them up to so many.
+/// The words, followed by zeros up to so many.
 fn pad(words: Items<u32>, count: usize) -> Result<Items<u32>, AllocError>
     requires { length words ≤ count }
     ensures { IfOk result (λ all. all ≡ padded count words) }

@@ -84,7 +84,7 @@ impl Graph {
 /// What is wrong with a line of a graph. Of several kinds that a line has, the first counts.
 #[derive(Clone, Copy, PartialEq, Eq, Debug)]
 pub enum GraphKind {
-    /// A line of no form, or a byte that may not stand.
+    /// A line of no form, or a byte that is not allowed.
     BadLine,
     /// A number of more than 32 bits, or one out of its range.
     BadNumber,

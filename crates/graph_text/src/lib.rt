@@ -1,7 +1,7 @@
 //! Graphs as texts: `read_graph`.
 //!
-//! What a line says stands in `specs/Line.antt`, what a text says in `specs/Text.antt`, and what holds of each graph that
-//! is read in `specs/Graph.antt`. Read `Graph` first.
+//! `specs/Line.antt` says what a line says, `specs/Text.antt` what a text says, `specs/Rows.antt` which row each line
+//! gives, and `specs/Graph.antt` what holds of each graph that is read. Read `Graph` first.
 #![tactic(auto)]
 
 mod draft;

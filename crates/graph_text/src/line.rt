@@ -50,7 +50,7 @@ pub(crate) struct EdgeLine {
     pub value: u32,
 }
 
-/// What a line behind the graph's line says.
+/// What a line after the graph's line says.
 #[derive(Drop)]
 pub(crate) enum GraphLine {
     Kind(KindLine),
@@ -136,7 +136,7 @@ fn read_vertex(alloc: Global, rest: &[u8]) -> Result<GraphLine, LineStop>
     Ok(GraphLine::Vertex(VertexLine { name, kind, words }))
 }
 
-/// The value of an edge, from the words behind its vertices.
+/// The value of an edge, from the words after its vertices.
 fn read_value(rest: &[u8]) -> Numeral<u32>
     ensures { result ≡ value_in (words_of rest.now) }
 {

@@ -8,7 +8,7 @@ use std::alloc::{AllocError, Global};
 use std::marker::Model;
 use tn_base::name::Name;
 
-/// Names in order, of which none stands twice. A contract sees the list.
+/// Names in order, each once. A contract sees the list.
 #[derive(Drop)]
 pub(crate) struct Names {
     names: IndexSet<Name>,

@@ -40,8 +40,3 @@ fault_on line kind = record { line = line; kind = kind }
 abbrev pub stop_at : {K : Type 0} → ℕ → Stop K → Stop (Fault K)
 stop_at line (stops.Fault kind) = stops.Fault (fault_on line kind)
 stop_at line stops.Memory = stops.Memory
-
--- what a line is read as, where a fault gets the line's number
-abbrev pub on_line : {V K : Type 0} → ℕ → Result V K → Result V (Fault K)
-on_line line (Ok value) = Ok value
-on_line line (Err kind) = Err (fault_on line kind)

@@ -4,7 +4,7 @@ use Rattle.tn_text.specs.declared.numbers.Numeral.{Numeral}
 use Rattle.tn_text.specs.declared.numbers.Numeral.TheVariants.{Value, TooLarge, NoNumber}
 use Rattle.tn_text.specs.Numbers.{number_of, word_value_of}
 
--- no number is worse than a number that is too large, wherever among the words it stands
+-- no number is worse than a number that is too large, whichever word it is
 abbrev pub number_before : Numeral ℕ → Numeral (List ℕ) → Numeral (List ℕ)
 number_before NoNumber more = NoNumber
 number_before (Value n) (Value ns) = Value (n ∷ ns)

@@ -46,13 +46,13 @@ signed_number_of text = signed_by number_of text
 abbrev pub signed_decimal_of : List ℕ → Numeral ℤ
 signed_decimal_of text = signed_by decimal_of text
 
--- behind a minus, in two's complement of 32 bits
+-- after a minus, in two's complement of 32 bits
 abbrev pub minus : Numeral ℕ → Numeral ℕ
 minus (Value n) = if nat_le n (2 ^ 31) then Value ((2 ^ 32 - n) % 2 ^ 32) else TooLarge
 minus TooLarge = TooLarge
 minus NoNumber = NoNumber
 
--- a number, or a decimal number behind a `-`, as a word of 32 bits
+-- a number, or a decimal number after a `-`, as a word of 32 bits
 abbrev pub word_value_of : List ℕ → Numeral ℕ
 word_value_of [] = number_of []
 word_value_of (b ∷ bs) = if b == 45 then minus (decimal_of bs) else number_of (b ∷ bs)

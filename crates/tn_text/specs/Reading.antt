@@ -14,7 +14,7 @@ abbrev pub content_says : {A K : Type 0} → (List ℕ → Result A K) → List 
 content_says says [] = Ok None
 content_says says (b ∷ bs) = some_said (says (b ∷ bs))
 
--- what a line says by its content; a blank one says nothing, and a byte that may not stand is a fault of the kind `foreign`
+-- what a line says by its content; a blank one says nothing, and a byte that is not allowed is a fault of the kind `foreign`
 abbrev pub line_says : {A K : Type 0} → K → (List ℕ → Result A K) → List ℕ → Result (Option A) K
 line_says foreign says line = if is_plain line then content_says says (content_of line) else Err foreign
 
@@ -30,7 +30,7 @@ abbrev pub read_from : {A K : Type 0} → (ℕ → List ℕ → Result (Option A
 read_from says number [] = Ok []
 read_from says number (l ∷ ls) = said_before number (says number l) (read_from says (number + 1) ls)
 
--- items with what one more line says behind them
+-- items, followed by what one more line says
 abbrev pub said_onto : {A K : Type 0} → List A → Result (Option A) K → Result (List A) K
 said_onto items (Ok (Some a)) = Ok (items ++ a ∷ [])
 said_onto items (Ok None) = Ok items

@@ -11,7 +11,7 @@ is_some_text (b ∷ bs) = true
 abbrev pub words_of : List ℕ → List (List ℕ)
 words_of line = filter is_some_text (slice_split is_space line)
 
--- a word behind another, as texts are printed
+-- a word after another, as texts are printed
 abbrev pub spaced : List ℕ → List ℕ
 spaced word = 32 ∷ word
 

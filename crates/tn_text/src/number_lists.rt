@@ -21,7 +21,7 @@ fn taken(too_large: bool, number: Numeral<u32>) -> Option<(u32, bool)>
     }
 }
 
-/// Reads one number for each place of `values`, from as many words. The values count only behind `Value`.
+/// Reads one number for each place of `values`, from as many words. The values count only where it answers `Value`.
 fn read_numbers(line: &[u8], values: &mut [u32]) -> Numeral<()>
     ensures { Reads result values.new (numbers_in (length values.old) (words_of line.now)) }
 {
@@ -48,7 +48,7 @@ fn read_numbers(line: &[u8], values: &mut [u32]) -> Numeral<()>
     }
 }
 
-/// The numbers of a line that has `N` words, each of them a number, decimal or behind `0x`. A line of another form is
+/// The numbers of a line that has `N` words, each of them a number, decimal or after `0x`. A line of another form is
 /// `NoNumber`, also where one of its numbers is too large.
 pub fn numbers<const N: usize>(line: &[u8]) -> Numeral<[u32; N]>
     ensures { result ≡ numbers_in N (words_of line.now) }

@@ -7,7 +7,7 @@ use Rattle.tn_base.specs.declared.event.Event.TheVariants.{Turn, Deliver, Depart
 abbrev pub feed : List ℕ
 feed = 10 ∷ []
 
--- a name alone, and with one number or two behind it
+-- a name alone, and a name followed by one number or two
 abbrev pub alone : List ℕ → List ℕ
 alone name = name ++ feed
 

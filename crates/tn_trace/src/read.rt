@@ -16,7 +16,7 @@ use tn_text::stop::{Fault, Stop};
 /// What is wrong with a line.
 #[derive(Clone, Copy, PartialEq, Eq, Debug)]
 pub enum TraceKind {
-    /// A line of no form, or a byte that may not stand.
+    /// A line of no form, or a byte that is not allowed.
     BadLine,
 }
 
