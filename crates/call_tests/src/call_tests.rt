@@ -144,7 +144,7 @@ const NO_TEXT: Case = Case {
 
 /// Each call sets anew what is kept: a call that makes no machine keeps none. `plain_top` keeps nothing, so each case of it
 /// follows one that kept none.
-const CASES: [Case; 28] = [
+static CASES: [Case; 28] = [
     RUN,
     Case {
         source: (1, &[]),

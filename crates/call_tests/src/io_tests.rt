@@ -55,7 +55,7 @@ impl Read for Flaky {
 
 /// Ten bytes, four a call, of which the calls of these numbers fail: the most that may be read, and what is read first and
 /// second. A failed call loses what was read before it, and a piece too much is lost as well.
-const READS: [(&[u32], usize, (&str, &str)); 4] = [
+static READS: [(&[u32], usize, (&str, &str)); 4] = [
     (&[], 10, ("abcdefghij", "")),
     (&[], 100, ("abcdefghij", "")),
     (&[], 9, ("the source has more bytes than may be read", "")),
@@ -65,10 +65,10 @@ const READS: [(&[u32], usize, (&str, &str)); 4] = [
 #[test]
 fn sources(rt: HostRuntime) -> Result<(), Fail> {
     let alloc = rt.alloc();
-    for (fails, limit, texts) in READS {
+    for (fails, limit, texts) in &READS {
         let bytes = Vec::from_slice(alloc, b"abcdefghij".as_slice())?;
-        let mut source = MemSource::of(bytes, 4, Vec::from_slice(alloc, fails)?);
-        assert!(rt; reads(alloc, &mut source, limit, texts)?, "{}", texts.0);
+        let mut source = MemSource::of(bytes, 4, Vec::from_slice(alloc, *fails)?);
+        assert!(rt; reads(alloc, &mut source, *limit, *texts)?, "{}", texts.0);
     }
     let mut reader = StdSource::of(b"hello".as_slice());
     assert!(rt; reads(alloc, &mut reader, 5, ("hello", ""))?);
@@ -100,7 +100,7 @@ impl Write for Stuck {
 
 /// A sink that takes four bytes a call, into so much room, and fails at the calls of these numbers: what is put into it in
 /// turn, whether all is written, and what is written then.
-const WRITES: [(&[u32], usize, &str, bool, &[u8]); 4] = [
+static WRITES: [(&[u32], usize, &str, bool, &[u8]); 4] = [
     (&[], 8, "abcdefgh", true, b"abcdefgh"),
     (&[], 6, "abcdefgh", false, b"abcd"),
     (&[0], 8, "abcdefgh", false, b""),
@@ -110,11 +110,11 @@ const WRITES: [(&[u32], usize, &str, bool, &[u8]); 4] = [
 #[test]
 fn sinks(rt: HostRuntime) -> Result<(), Fail> {
     let alloc = rt.alloc();
-    for (fails, room, text, all, written) in WRITES {
-        let mut sink = MemSink::of(alloc, 4, Vec::from_slice(alloc, fails)?);
-        sink.reserve(room)?;
-        assert_eq!(rt; writes(&mut sink, text), all);
-        assert_eq!(rt; sink.written(), written);
+    for (fails, room, text, all, written) in &WRITES {
+        let mut sink = MemSink::of(alloc, 4, Vec::from_slice(alloc, *fails)?);
+        sink.reserve(*room)?;
+        assert_eq!(rt; writes(&mut sink, *text), *all);
+        assert_eq!(rt; sink.written(), *written);
     }
     let mut out = Vec::new(alloc);
     let mut sink = StdSink::of(&mut out);

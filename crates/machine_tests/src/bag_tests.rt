@@ -222,7 +222,7 @@ const ECHOED: Note = Note {
     ..FROM_0
 };
 
-const STANDING: [Standing; 15] = [
+static STANDING: [Standing; 15] = [
     Standing {
         job: ECHO,
         events: &WHOLE,
@@ -493,7 +493,7 @@ const CAME_0304: Seen = Seen {
 type Spelled = (&'static [u8], &'static [Event], &'static [Steps]);
 
 /// The router is no part of the bag machine: the letters of `KEYED` are in flight from the send on.
-const SPELLED: [Spelled; 4] = [
+static SPELLED: [Spelled; 4] = [
     (
         ECHO,
         &[Event::Turn(ThreadId(0), 16)],
@@ -546,8 +546,8 @@ const SPELLED: [Spelled; 4] = [
 
 #[test]
 fn steps_of_runs(rt: HostRuntime) -> Result<(), Fail> {
-    for (job, events, steps) in SPELLED {
-        assert!(rt; spells(rt.alloc(), job, events, steps)?, "{:?}", events);
+    for (job, events, steps) in &SPELLED {
+        assert!(rt; spells(rt.alloc(), *job, *events, *steps)?, "{:?}", events);
     }
     Ok(())
 }

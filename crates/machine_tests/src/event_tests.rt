@@ -349,7 +349,7 @@ const MEETING: [Step; 31] = [
     (ROUTE_4, Did::Moved, Some(OVER)),
 ];
 
-const SCENARIOS: [Scenario; 6] = [
+static SCENARIOS: [Scenario; 6] = [
     Scenario {
         job: TWO,
         steps: &NO_EVENTS,
@@ -421,7 +421,7 @@ fn other_play(alloc: Global, job: &[u8], limits: &[Played]) -> Result<Option<u64
 }
 
 /// Each turn is as long as it can be: up to the end, up to the trap, and up to the last step that may be made.
-const PLAYS: [(&[u8], &[Played]); 3] = [
+static PLAYS: [(&[u8], &[Played]); 3] = [
     (
         TWO,
         &[
@@ -458,8 +458,8 @@ const PLAYS: [(&[u8], &[Played]); 3] = [
 
 #[test]
 fn plays(rt: HostRuntime) -> Result<(), Fail> {
-    for (job, limits) in PLAYS {
-        assert_eq!(rt; other_play(rt.alloc(), job, limits)?, None);
+    for (job, limits) in &PLAYS {
+        assert_eq!(rt; other_play(rt.alloc(), *job, *limits)?, None);
     }
     Ok(())
 }

@@ -306,9 +306,9 @@ const COMMANDS: [Case; 16] = [
 
 #[test]
 fn commands(rt: HostRuntime) -> Result<(), Fail> {
-    for (command, can_send, first, became) in COMMANDS {
-        let view = tile(can_send, first)?;
-        assert_eq!(rt; commanded(rt.alloc(), command, &view)?, became);
+    for (command, can_send, first, became) in &COMMANDS {
+        let view = tile(*can_send, *first)?;
+        assert_eq!(rt; commanded(rt.alloc(), *command, &view)?, *became);
     }
     // A handler begins at its address with its registers.
     let mut regs = Regs::zero();
@@ -367,8 +367,8 @@ const REGISTERS: [(u16, bool, Became); 14] = [
 #[test]
 fn registers_outside_the_firmware(rt: HostRuntime) -> Result<(), Fail> {
     let view = tile(true, Some(3))?;
-    for (csr, writes, became) in REGISTERS {
-        assert_eq!(rt; used(rt.alloc(), csr, writes, &view)?, became);
+    for (csr, writes, became) in &REGISTERS {
+        assert_eq!(rt; used(rt.alloc(), *csr, *writes, &view)?, *became);
     }
     Ok(())
 }

@@ -194,7 +194,7 @@ const WORKS: Marks = Marks {
     counter: -1,
 };
 
-const CASES: [Case; 11] = [
+static CASES: [Case; 11] = [
     // A thread that is idle with its vote against the end reads 1 once it is released, and makes no step before the tile
     // goes on.
     Case {

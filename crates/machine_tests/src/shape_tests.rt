@@ -187,7 +187,7 @@ fn other_fact(numbers: ShapeNumbers, facts: &[Fact]) -> Result<Option<Fact>, Fai
 }
 
 /// Machines, and what holds of them.
-const FACTS: [(ShapeNumbers, &[Fact]); 5] = [
+static FACTS: [(ShapeNumbers, &[Fact]); 5] = [
     (
         ONE,
         &[
@@ -307,8 +307,8 @@ const FACTS: [(ShapeNumbers, &[Fact]); 5] = [
 
 #[test]
 fn facts(rt: HostRuntime) -> Result<(), Fail> {
-    for (numbers, facts) in FACTS {
-        assert_eq!(rt; other_fact(numbers, facts)?, None);
+    for (numbers, facts) in &FACTS {
+        assert_eq!(rt; other_fact(*numbers, *facts)?, None);
     }
     // No job has version 3: its first line is no header.
     let third = ShapeNumbers {
