@@ -7,6 +7,8 @@
 #[cfg(test)]
 mod call_tests;
 #[cfg(test)]
+mod graph_tests;
+#[cfg(test)]
 mod io_tests;
 #[cfg(test)]
 mod print_tests;

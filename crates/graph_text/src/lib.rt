@@ -9,5 +9,3 @@ pub mod graph;
 mod line;
 mod names;
 pub mod read;
-#[cfg(test)]
-mod tests;

@@ -1,7 +1,7 @@
-//! Texts whose faults were worked out by hand.
+//! Texts of graphs, which no command reads yet. Their faults were worked out by hand.
 
-use crate::graph::GraphKind;
-use crate::read::read_graph;
+use graph_text::graph::GraphKind;
+use graph_text::read::read_graph;
 use std::alloc::Global;
 use std::process::Abort;
 use tn_text::lines::law_line_count;
@@ -18,7 +18,7 @@ fn fault_of<H: Abort>(rt: &H, alloc: Global, text: &[u8]) -> Option<(u32, GraphK
     }
 }
 
-const CASES: [(&[u8], Option<(u32, GraphKind)>); 20] = [
+static CASES: [(&'static [u8], Option<(u32, GraphKind)>); 20] = [
     (
         b"graph 1 4\nkind sum 1 3\nvertex a sum 1 0 3\n\tvertex b sum -2 # two\r\n\nedge a 0 b\nedge b 0x0 a 7\n",
         None,
@@ -81,7 +81,7 @@ const CASES: [(&[u8], Option<(u32, GraphKind)>); 20] = [
 ];
 
 #[test]
-fn names_first_faults(rt: HostRuntime) {
+fn first_fault_of_a_graph_is_at_its_line(rt: HostRuntime) {
     for (text, fault) in CASES {
         assert!(rt; fault_of(&rt, rt.alloc(), text) == fault);
     }
