@@ -1,4 +1,5 @@
 pub mod Bytes
+pub mod Counts
 pub mod Made
 pub mod Same
 pub mod Start

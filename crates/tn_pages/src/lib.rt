@@ -4,6 +4,7 @@
 //! What callers see of a memory stands in `specs/Paged.antt`. Read `PagedMemory::write` first.
 #![tactic(auto)]
 
+pub mod laws;
 pub mod memory;
 pub mod numbers;
 mod page;

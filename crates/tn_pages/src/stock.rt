@@ -54,6 +54,15 @@ impl PageStock {
         filled
     }
 
+    /// A stock of as many pages.
+    pub fn copy(&self) -> Result<PageStock, AllocError>
+        ensures { IfOk result (λ s. s ≡ self.now) }
+    {
+        let mut stock = PageStock::of(self.pages.allocator().clone()?);
+        stock.reserve(self.len())?;
+        Ok(stock)
+    }
+
     /// Takes a page of zeros out of a stock that has one.
     #[inline(always)]
     pub(crate) fn take(&mut self) -> Page
