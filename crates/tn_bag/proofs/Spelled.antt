@@ -19,7 +19,7 @@ use Rattle.tn_slots.specs.PoolModel.{PoolModel}
 use Rattle.tn_slots.specs.Queues.{first_of}
 use Rattle.tn_slots.specs.Slot.{is_free}
 use Rattle.tn_slots.specs.WellKept.{WellKept, times}
-use Rattle.tn_slots.proofs.Kept.{free_masks, taken_some}
+use Rattle.tn_slots.proofs.Kept.{free_masks}
 use Rattle.tn_slots.proofs.Lists.{bit_cases, times-cons, times_first}
 use Rattle.tn_slots.proofs.Owed.{first_is}
 use Rattle.tn_thread.specs.declared.thread.Thread.{Thread}
@@ -100,6 +100,10 @@ drop_suc (x ∷ q) (suc i) = drop_suc q i
 
 drop_next : (q : List ℕ) (i : ℕ) → drop 1 (drop i q) ≡ drop (i + 1) q
 drop_next q i = let o : suc i ≡ i + 1 = omega arith in drop_suc q i ∙ ap (λ n. drop n q) o
+
+-- a thread's queue that begins with s, after s was taken
+taken_some : (p : PoolModel) (t s : ℕ) → first_of (queue_at p t) ≡ Some s → taken t p ≡ taken_from t (s ∷ drop 1 (queue_at p t)) p
+taken_some p t s e = ap (λ q. taken_from t q p) (first_is (queue_at p t) s e)
 
 pub next_left : (was now new : PoolModel) (k i : ℕ) → QueueLeft was now k i → k < length was.queues → i < length (queue_at was k) → new ≡ taken k now → QueueLeft was new k (i + 1)
 next_left was now new k i left h within e =

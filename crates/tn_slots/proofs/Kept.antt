@@ -16,7 +16,7 @@ use Rattle.tn_slots.specs.declared.slot.Slot.{Slot}
 use Rattle.tn_slots.specs.PoolModel.{PoolModel}
 use Rattle.tn_slots.specs.Slot.{empty_slot, fresh_slot, freed_slot, is_free, left_slot, taken_slot}
 use Rattle.tn_slots.specs.Queues.{first_of}
-use Rattle.tn_slots.specs.Pool.{Holds, first_free, freed, fresh, key_for, key_in, left, put_at, queue_at, slot_at, taken, taken_from}
+use Rattle.tn_slots.specs.Pool.{Holds, first_free, freed, fresh, key_for, key_in, left, put_at, queue_at, slot_at, taken_from}
 use Rattle.tn_slots.specs.WellKept.{WellKept, times}
 use Rattle.tn_slots.proofs.Lists.{bit_cases, both_true, is_zero, kept_by_set, map_each, replicate_each, set_each, times_first, times_other, times_push_other, times_push_same}
 use Rattle.tn_slots.proofs.Masks.{without_below}
@@ -334,9 +334,6 @@ left_kept p t h w =
       named = rw length-set (map_each (Named (length p.queues)) (left_slot t) p.slots empty_slot w.named (λ x n. (without_below x.owed t (length p.queues) n.0, without_below x.holders t (length p.queues) n.1)));
       fits = map_each (Fits p.slot_bytes) (left_slot t) p.slots empty_slot w.fits (λ x n. n);
     }
-
-pub taken_some : (p : PoolModel) (t s : ℕ) → first_of (queue_at p t) ≡ Some s → taken t p ≡ taken_from t (s ∷ drop 1 (queue_at p t)) p
-taken_some p t s e = ap (λ q. taken_from t q p) (first_is (queue_at p t) s e)
 
 -- the slot that a put takes is there and is free
 pub first_free_is : (p : PoolModel) (s : ℕ) → first_free p ≡ Some s → (s < length p.slots) × (is_free (slot_at p s) ≡ true)
