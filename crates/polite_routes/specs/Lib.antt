@@ -1,0 +1,6 @@
+pub mod Full
+pub mod Hops
+pub mod Pack
+pub mod Straight
+pub mod Targets
+pub mod Tree
