@@ -1,8 +1,13 @@
+pub mod Each
 pub mod Filled
 pub mod Fullness
 pub mod Growing
 pub mod Grows
+pub mod Grid
 pub mod Leading
+pub mod Marks
+pub mod Passing
 pub mod Ranges
 pub mod Records
+pub mod Trees
 pub mod Walks
