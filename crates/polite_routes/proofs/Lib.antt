@@ -9,5 +9,6 @@ pub mod Marks
 pub mod Passing
 pub mod Ranges
 pub mod Records
+pub mod Routing
 pub mod Trees
 pub mod Walks

@@ -3,6 +3,7 @@ pub mod Hops
 pub mod Once
 pub mod Pack
 pub mod Passes
+pub mod Routes
 pub mod Straight
 pub mod Targets
 pub mod Tree

@@ -5,5 +5,6 @@
 #![tactic(auto)]
 
 mod draft;
+pub mod laws;
 mod tree;
 pub mod target;
