@@ -5,6 +5,7 @@ pub mod Growing
 pub mod Grows
 pub mod Grid
 pub mod Leading
+pub mod Marking
 pub mod Marks
 pub mod Passing
 pub mod Ranges

@@ -31,17 +31,11 @@ use Rattle.polite_routes.proofs.Each.{Parts, each_once, parts}
 use Rattle.polite_routes.proofs.Grid.{at}
 use Rattle.polite_routes.proofs.Grows.{Grows, grows_refl, grows_trans}
 use Rattle.polite_routes.proofs.Leading.{Leads, Sound, leads_grows, leads_up}
+use Rattle.polite_routes.proofs.Marking.{no_mask}
 use Rattle.polite_routes.proofs.Marks.{mask_bit, spot_is, to, to_tile}
 use Rattle.tn_base.proofs.NamesThreads.{names_from}
 use Rattle.polite_routes.proofs.Passing.{AllStraight, BeatsStraight, passes}
 use Rattle.polite_routes.proofs.Trees.{Plants, depth, plants_tree, tree_hops}
-
--- a tile without targets has no mask
-no_mask : (ts : List Target) (m i : ℕ) → reaches ts i ≡ false → mask_with m ts i ≡ m
-no_mask [] m i h = refl
-no_mask (t ∷ ts) m i h =
-    let p = or_parts (leads_to i t) (reaches ts i) h in
-    ap (λ b. mask_with (cond b (with_bit m (t.thread.0 % 64)) m) ts i) p.0 ∙ no_mask ts m i p.1
 
 -- a tile with targets has a thread of the machine to which an edge leads
 pub record Reached (n : ShapeNumbers) (i : ℕ) : Type 0 where

@@ -13,6 +13,11 @@ use Rattle.polite_routes.specs.declared.target.InEdge.{InEdge}
 use Rattle.polite_routes.specs.declared.target.Pin.{Pin}
 use Rattle.polite_routes.specs.declared.target.Spot.{Spot}
 use Rattle.polite_routes.specs.declared.target.Target.{Target}
+use Rattle.std.specs.declared.result.Result.{Result}
+use Rattle.std.specs.declared.result.Result.TheVariants.{Ok, Err}
+use Rattle.polite_routes.specs.declared.target.RouteStop.{RouteStop}
+use Rattle.polite_routes.specs.declared.target.RouteStop.TheVariants.{KeysFull, Memory, TableFull}
+use Rattle.polite_routes.specs.Full.{is_full}
 use Rattle.polite_routes.specs.Hops.{Hop, arrives, reach_of}
 use Rattle.polite_routes.specs.Once.{AllThere, EachOnce, Lists}
 use Rattle.polite_routes.specs.Straight.{StraightFrom}
@@ -79,3 +84,30 @@ pub record PinRouted (n : ShapeNumbers) (tables : List Table) (lists : Lists) (b
   pub reached : (bytes : List ℕ) → reach_of n tables bytes board key ≡ map (arrives bytes) hops
   pub once : EachOnce lists hops targets local
   pub straight : StraightFrom 9 n tables 4 (Some board) key
+
+-- how many trees of pins reach each tile
+unfoldable pub counts_of : List Pin → List ℕ
+counts_of pins = map (trees_to pins) (range_with_len 0 256)
+
+-- the tables, and the keys of pins
+pub record Planting : Type 0 where
+  pub tables : List Table
+  pub keys : List (Option ℕ)
+
+-- the keys of the first pins
+abbrev pub keys_to : ShapeNumbers → List Pin → ℕ → List (Option ℕ)
+keys_to n pins j = map (key_at n pins) (range_with_len 0 j)
+
+-- the trees of all pins, or what is full: keys first, then tables
+abbrev pub planting : ShapeNumbers → List Pin → Result Planting RouteStop
+planting n pins =
+    if keys_full pins then Err KeysFull
+    else if is_full (tables_of n pins) then Err TableFull
+    else Ok (record { tables = tables_of n pins; keys = keys_to n pins (length pins) })
+
+-- what a call answers, unless memory ran out
+abbrev pub IsPlanting : Result Planting RouteStop → Result Planting RouteStop → Type 0
+IsPlanting (Ok p) answer = Ok p ≡ answer
+IsPlanting (Err KeysFull) answer = Err KeysFull ≡ answer
+IsPlanting (Err TableFull) answer = Err TableFull ≡ answer
+IsPlanting (Err Memory) answer = Unit {0}

@@ -1,6 +1,6 @@
 -- To which tiles and threads the edges of a pin lead.
 use Rattle.std.specs.Prelude.{ℕ, ◌≡◌, ◌<◌, length, ◌+◌, ◌*◌, ◌/◌, ◌%◌, ◌==◌, Bool, List, [], ◌∷◌, map, slice_index_or, if◌then◌else◌}
-use Rattle.std.specs.List.{filter, list_any, range_with_len}
+use Rattle.std.specs.List.{All, filter, list_any, range_with_len}
 use Rattle.tn_base.specs.Mask.{with_bit}
 use Rattle.polite_routes.specs.declared.target.InEdge.{InEdge}
 use Rattle.polite_routes.specs.declared.target.Target.{Target}
@@ -43,3 +43,22 @@ spot_at spots i = slice_index_or spots i (spot 0 0)
 pub record Narrow (spots : List Spot) : Type 0 where
   pub all : length spots ≡ 256
   pub each : (i : ℕ) → (spot_at spots i).local < 65536
+
+-- the masks of all tiles that a machine may have, by address
+unfoldable pub masks_for : List Target → List ℕ
+masks_for ts = map (mask_of ts) (range_with_len 0 256)
+
+-- each edge leads to an address that a machine may have
+pub record AllLow (ts : List Target) : Type 0 where
+  pub low : All (λ t. t.thread.0 < 16384) ts
+
+abbrev pub count_in : List ℕ → ℕ → ℕ
+count_in counts i = slice_index_or counts i 0
+
+-- the spots of tiles with these masks
+abbrev pub spot_of : List ℕ → (ℕ → ℕ) → ℕ → Spot
+spot_of masks earlier i = spot (count_in masks i) (if count_in masks i == 0 then 0 else earlier i)
+
+-- one more where there is a mask
+abbrev pub one_more : ℕ → ℕ → ℕ
+one_more mask count = if mask == 0 then count else count + 1

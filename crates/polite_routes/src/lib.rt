@@ -6,5 +6,6 @@
 
 mod draft;
 pub mod laws;
+mod spots;
 mod tree;
 pub mod target;
