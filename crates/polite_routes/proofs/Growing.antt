@@ -106,3 +106,6 @@ pub tree_full_4 : (n : ShapeNumbers) (ss : List Spot) (east west south north : O
     → es ≡ (row n ss 0 n.boards_x east ts).tables → us ≡ (row n ss 1 n.boards_x west es).tables → vs ≡ (column n ss 2 n.boards_y south us).tables
     → is_full (column n ss 3 n.boards_y north vs).tables ≡ true → is_full (tree n ss b ts).tables ≡ true
 tree_full_4 n ss east west south north b ts es us vs e f g g2 u v w h = tree_end n ss b ts (rw (g2, w, g, v, f, u, e) at h)
+
+pub full_tree : (n : ShapeNumbers) (ss : List Spot) (b : Board) (ts : List Table) → is_full ts ≡ true → is_full (tree n ss b ts).tables ≡ true
+full_tree n ss b ts h = tree_full_1 n ss (neighbour n 0 b) b ts refl (full_row n ss 0 n.boards_x (neighbour n 0 b) ts h)

@@ -8,6 +8,7 @@ pub mod Leading
 pub mod Marking
 pub mod Marks
 pub mod Passing
+pub mod InTurn
 pub mod Ranges
 pub mod Records
 pub mod Routing

@@ -105,14 +105,14 @@ counted_by : (ts : List Target) (i c : ℕ) (v : Bool) → v ≡ reaches ts i �
 counted_by ts i c true e = ap (λ b. cond b c (c + 1)) (mask_some ts i (eqb (mask_of ts i) 0) refl (sym e))
 counted_by ts i c false e = ap (λ m. one_more m c) (no_mask ts 0 i (sym e)) ∙ omega arith
 
-trees_push : (ps : List Pin) (p : Pin) (i : ℕ) → trees_to (ps ++ p ∷ []) i ≡ trees_to ps i + cond (reaches p.targets i) 1 0
+pub trees_push : (ps : List Pin) (p : Pin) (i : ℕ) → trees_to (ps ++ p ∷ []) i ≡ trees_to ps i + cond (reaches p.targets i) 1 0
 trees_push [] p i = omega arith
 trees_push (q ∷ ps) p i = let r = trees_push ps p i in omega arith
 
 abbrev pub no_pin : Pin
 no_pin = record { board = record { x = 0; y = 0 }; targets = [] }
 
-pins_one : (ps : List Pin) (j : ℕ) → j < length ps → take (j + 1) ps ≡ take j ps ++ get_or ps j no_pin ∷ []
+pub pins_one : (ps : List Pin) (j : ℕ) → j < length ps → take (j + 1) ps ≡ take j ps ++ get_or ps j no_pin ∷ []
 pins_one ps j h = grind (arith, common_steps)
 
 -- one tree more is counted
@@ -129,3 +129,9 @@ trees_few (p ∷ ps) i = let r = trees_few ps i in let o = one (reaches p.target
   one : (b : Bool) → cond b 1 0 ≤ 1
   one true = omega arith
   one false = omega arith
+
+pub mask_reached : (ts : List Target) (i : ℕ) → eqb (mask_of ts i) 0 ≡ false → reaches ts i ≡ true
+mask_reached ts i h = by (reaches ts i) refl where
+  by : (v : Bool) → v ≡ reaches ts i → v ≡ true
+  by true e = refl
+  by false e = let z = no_mask ts 0 i (sym e) in let t = ap (λ m. eqb m 0) z in absurd (cc)

@@ -1,5 +1,5 @@
 -- The routes of pins: one tree for each pin with an edge, in order, and the in-edges of each thread.
-use Rattle.std.specs.Prelude.{ℕ, suc, zero, ◌≡◌, ◌<◌, ◌+◌, ◌/◌, ◌*◌, Bool, List, [], ◌∷◌, length, map, nat_lt, replicate, slice_index_or, take, if◌then◌else◌}
+use Rattle.std.specs.Prelude.{ℕ, suc, zero, ◌≡◌, ◌<◌, ◌+◌, ◌/◌, ◌*◌, Bool, true, false, List, [], ◌∷◌, length, map, nat_lt, replicate, slice_index_or, take, if◌then◌else◌}
 use Rattle.std.specs.List.{All, filter, list_any, range_with_len}
 use Rattle.std.specs.declared.option.Option.{Option}
 use Rattle.std.specs.declared.option.Option.TheVariants.{Some}
@@ -10,6 +10,7 @@ use Rattle.tn_base.specs.Parts.{board_count}
 use Rattle.tn_base.specs.Shape.{thread_count}
 use Rattle.tn_keys.specs.Tables.{HasBoard, Table}
 use Rattle.polite_routes.specs.declared.target.InEdge.{InEdge}
+use Rattle.polite_routes.specs.declared.planting.Planting.{Planting}
 use Rattle.polite_routes.specs.declared.target.Pin.{Pin}
 use Rattle.polite_routes.specs.declared.target.Spot.{Spot}
 use Rattle.polite_routes.specs.declared.target.Target.{Target}
@@ -89,11 +90,6 @@ pub record PinRouted (n : ShapeNumbers) (tables : List Table) (lists : Lists) (b
 unfoldable pub counts_of : List Pin → List ℕ
 counts_of pins = map (trees_to pins) (range_with_len 0 256)
 
--- the tables, and the keys of pins
-pub record Planting : Type 0 where
-  pub tables : List Table
-  pub keys : List (Option ℕ)
-
 -- the keys of the first pins
 abbrev pub keys_to : ShapeNumbers → List Pin → ℕ → List (Option ℕ)
 keys_to n pins j = map (key_at n pins) (range_with_len 0 j)
@@ -111,3 +107,10 @@ IsPlanting (Ok p) answer = Ok p ≡ answer
 IsPlanting (Err KeysFull) answer = Err KeysFull ≡ answer
 IsPlanting (Err TableFull) answer = Err TableFull ≡ answer
 IsPlanting (Err Memory) answer = Unit {0}
+
+-- the same of a call that plants into tables and appends keys
+abbrev pub Lays : Result Unit RouteStop → List Table → List (Option ℕ) → List Table → List (Option ℕ) → Type 0
+Lays (Ok done) new got tables keys = (new ≡ tables) × (got ≡ keys) × (is_full tables ≡ false)
+Lays (Err TableFull) new got tables keys = is_full tables ≡ true
+Lays (Err KeysFull) new got tables keys = ⊥
+Lays (Err Memory) new got tables keys = Unit {0}

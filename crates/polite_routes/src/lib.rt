@@ -6,6 +6,7 @@
 
 mod draft;
 pub mod laws;
+mod planting;
 mod spots;
 mod tree;
 pub mod target;

@@ -11,7 +11,7 @@ use std::alloc::{AllocError, Global};
 use tn_base::mask::Mask;
 
 /// How many tiles the addresses of threads may name.
-const TILES: usize = 256;
+pub(crate) const TILES: usize = 256;
 
 /// Adds the threads to which edges lead to the masks of their tiles.
 fn mark(masks: &mut [u64], targets: &[Target])
