@@ -11,13 +11,14 @@ use Rattle.tn_base.specs.declared.ids.Board.{Board}
 use Rattle.tn_base.specs.declared.shape.ShapeNumbers.{ShapeNumbers}
 use Rattle.tn_base.specs.Parts.{board_count}
 use Rattle.tn_keys.specs.Tables.{Table}
+use Rattle.polite_routes.specs.declared.planting.Planting.{Planting}
 use Rattle.polite_routes.specs.declared.target.Pin.{Pin}
 use Rattle.polite_routes.specs.declared.target.RouteStop.{RouteStop}
 use Rattle.polite_routes.specs.declared.target.RouteStop.TheVariants.{KeysFull, Memory, TableFull}
 use Rattle.polite_routes.specs.declared.target.Spot.{Spot}
 use Rattle.polite_routes.specs.declared.target.Target.{Target}
 use Rattle.polite_routes.specs.Full.{Gives, is_full}
-use Rattle.polite_routes.specs.Routes.{Lays, PinThere, PinsThere, key_at, keys_full, keys_to, local_of, pin_at, spots_of, tables_after, tables_of, tree_of, trees_to}
+use Rattle.polite_routes.specs.Routes.{IsPlanting, Lays, PinThere, PinsThere, key_at, keys_full, keys_to, local_of, pin_at, planting, spots_of, tables_after, tables_of, tree_of, trees_to}
 use Rattle.polite_routes.specs.Targets.{AllLow, Narrow, count_in, mask_of, one_more, reaches, spot, spot_at, spot_for, spots_for}
 use Rattle.polite_routes.specs.Tree.{Planted, tree}
 use Rattle.polite_routes.proofs.Growing.{full_tree}
@@ -66,6 +67,7 @@ trees_le (p ∷ ps) zero i = omega arith
 trees_le (p ∷ ps) (suc j) i = let r = trees_le ps j i in omega arith
 
 local_small : (ps : List Pin) (j i : ℕ) (p : Pin) (v : Bool) → j < length ps → p ≡ get_or ps j no_pin → keys_full ps ≡ false → i < 256 → v ≡ eqb (mask_of p.targets i) 0 → cond v 0 (trees_to (take j ps) i) < 65536
+unfolding keys_full
 local_small ps j i p true h e f l m = omega arith
 local_small ps j i p false h e f l m =
     let r : reaches p.targets i ≡ true = mask_reached p.targets i (sym m) in
@@ -162,3 +164,28 @@ next_pin n ps j p counts new ts us keys got key h e s c r b k u f g =
       short = ap is_full u ∙ f;
       keys_are = g ∙ ap (λ xs. xs ++ key ∷ []) s.keys_are ∙ ap (λ x. keys_to n ps j ++ x ∷ []) (k ∙ ap (λ (q : Planted). q.key) t) ∙ sym (next_keys n ps j);
     }
+
+zero_at : (n i : ℕ) → get_or {A = ℕ} (replicate n 0) i 0 ≡ 0
+zero_at zero i = refl
+zero_at (suc n) zero = refl
+zero_at (suc n) (suc i) = zero_at n i
+
+pub none_counted : (counts : List ℕ) (i : ℕ) → counts ≡ replicate 256 0 → count_in counts i ≡ 0
+none_counted counts i e = ap (λ xs. count_in xs i) e ∙ zero_at 256 i
+
+any_map : (p : ℕ → Bool) (f : ℕ → ℕ) (xs : List ℕ) → list_any p (map f xs) ≡ list_any (λ i. p (f i)) xs
+any_map p f [] = refl
+any_map p f (x ∷ xs) = ap (λ b. p (f x) || b) (any_map p f xs)
+
+pub full_is : (ps : List Pin) (counts : List ℕ) (v : Bool) → v ≡ list_any (λ c. ltb 65536 c) counts → length counts ≡ 256 → ((i : ℕ) → i < 256 → count_in counts i ≡ trees_to ps i) → v ≡ keys_full ps
+unfolding keys_full
+full_is ps counts v e l h =
+    e ∙ ap (list_any (λ c. ltb 65536 c)) (fill_by_all (trees_to ps) counts 256 0 l h) ∙ any_map (λ c. ltb 65536 c) (trees_to ps) (range_with_len 0 256)
+
+pub stop_is : (r : Result Planting RouteStop) (e : RouteStop) (n : ShapeNumbers) (ps : List Pin) (new : List Table) (got keys : List (Option ℕ)) → keys_full ps ≡ false → IsErrAnd r (λ z. z ≡ e) → Lays (Err e) new got (tables_of n ps) keys → IsPlanting r (planting n ps)
+stop_is (Err TableFull) e n ps new got keys f i l =
+    let full : is_full (tables_of n ps) ≡ true = subst (λ (w : RouteStop). Lays (Err w) new got (tables_of n ps) keys) (sym i) l in
+    rw (f, full) refl
+stop_is (Err KeysFull) e n ps new got keys f i l = absurd (subst (λ (w : RouteStop). Lays (Err w) new got (tables_of n ps) keys) (sym i) l)
+stop_is (Err Memory) e n ps new got keys f i l = tt
+stop_is (Ok p) e n ps new got keys f i l = absurd i

@@ -68,7 +68,7 @@ abbrev pub in_edges_of : ShapeNumbers → List Pin → List (List (List InEdge))
 in_edges_of n pins = map (λ i. lists_to pins (thread_at n i)) (range_with_len 0 (thread_count n))
 
 -- a tile is reached by more than 65,536 trees
-abbrev pub keys_full : List Pin → Bool
+unfoldable pub keys_full : List Pin → Bool
 keys_full pins = list_any (λ i. nat_lt 65536 (trees_to pins i)) (range_with_len 0 256)
 
 -- the board of a pin is there, and so is each thread to which its edges lead

@@ -22,7 +22,7 @@ fn count_all(alloc: Global, shape: &Shape, pins: &[Pin], counts: &mut [u32]) -> 
     requires there { PinsThere shape.now pins.now }
     requires few { length pins.now ≤ 262144 }
     requires room { length counts.old ≡ 256 }
-    requires none { (i : ℕ) → count_in counts.old i ≡ 0 }
+    requires none { counts.old ≡ replicate 256 0 }
     ensures { IfOk result (λ _. (i : ℕ) → i < 256 → count_in counts.new i ≡ trees_to pins.now i) }
 {
     let _numbers = shape.numbers();
@@ -89,7 +89,7 @@ fn plant_all(
     requires few { length pins.now ≤ 262144 }
     requires free { keys_full pins.now ≡ false }
     requires room { length counts.old ≡ 256 }
-    requires none { (i : ℕ) → count_in counts.old i ≡ 0 }
+    requires none { counts.old ≡ replicate 256 0 }
     requires bare { draft.old ≡ replicate (board_count shape.now) [] }
     requires no_keys { keys.old.items ≡ [] }
     ensures { Lays result draft.new keys.new.items (tables_of shape.now pins.now) (keys_to shape.now pins.now (length pins.now)) }

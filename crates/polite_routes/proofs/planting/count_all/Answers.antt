@@ -1,6 +1,6 @@
 use Rattle.std.proofs.Common.{◌≡◌, take, length, arith, refl}
 use Rattle.polite_routes.proofs.Marking.{counted}
-use Rattle.polite_routes.proofs.InTurn.{few_counts, item_is, taken_few}
+use Rattle.polite_routes.proofs.InTurn.{few_counts, item_is, none_counted, taken_few}
 use Rattle.polite_routes.proofs.planting.count_all.Goals as goal
 
 pub number-requires-clause-few : goal.number-requires-clause-few
@@ -13,3 +13,6 @@ loop-pin-preserved c = record {
   (rw c.as_slice.ensures at (c.in_ok-number.ensures.counts i h));
   room = omega (arith, c.number.auto.counts, c.loop-pin.invariant.room);
 }
+
+pub loop-pin-init : goal.loop-pin-init
+loop-pin-init c = record { counts = λ i h. none_counted c.args.counts.now i c.requires.none; room = c.requires.room }

@@ -6,13 +6,13 @@ use Rattle.polite_routes.specs.Full.{is_full}
 use Rattle.polite_routes.specs.Routes.{key_at, tables_after, tree_of}
 use Rattle.polite_routes.specs.Targets.{count_in, spots_for}
 use Rattle.polite_routes.specs.Tree.{Planted, tree}
-use Rattle.polite_routes.proofs.InTurn.{Next, bare_short, bare_tables, few_counts, full_end, item_is, item_there, laid_stop, narrow_spots, next_pin, taken_few, tree_is}
+use Rattle.polite_routes.proofs.InTurn.{Next, bare_short, bare_tables, few_counts, full_end, item_is, item_there, laid_stop, narrow_spots, next_pin, none_counted, taken_few, tree_is}
 use Rattle.polite_routes.proofs.Marking.{no_pin}
 use Rattle.polite_routes.proofs.planting.plant_all.Goals as goal
 
 pub loop-pin-init : goal.loop-pin-init
 loop-pin-init c = record {
-  counts = λ i h. c.requires.none i;
+  counts = λ i h. none_counted c.args.counts.now i c.requires.none;
   room = c.requires.room;
   tables = c.requires.bare ∙ sym (bare_tables c.args.shape.now c.args.pins.now);
   boards = ap length c.requires.bare ∙ length-replicate (board_count c.args.shape.now) [];
