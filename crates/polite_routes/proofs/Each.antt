@@ -1,9 +1,8 @@
 -- What hops find is each edge once.
-use Rattle.std.proofs.Common.{◌≡◌, ◌≢◌, ◌<◌, ◌≤◌, ℕ, suc, zero, ◌+◌, ◌-◌, ◌*◌, ◌/◌, ◌%◌, eqb, ltb, cond, Bool, true, false, ◌||◌, List, [], ◌∷◌, ◌++◌, length, get_or, map, refl, sym, ◌∙◌, ap, arith}
+use Rattle.std.proofs.Common.{◌≡◌, ◌<◌, ◌≤◌, ℕ, suc, zero, ◌+◌, ◌-◌, ◌*◌, ◌/◌, ◌%◌, eqb, cond, Bool, true, false, ◌||◌, List, [], ◌∷◌, get_or, map, refl, sym, ◌∙◌, ap, arith}
 use Rattle.std.proofs.lemmas.Bool.Decides.{nat_tests}
 use Rattle.std.proofs.lemmas.Bool.{and_parts, ltb-true, or_parts}
 use Rattle.std.proofs.lemmas.List.Sums.{sum_by-cons}
-use Rattle.std.proofs.lemmas.Nat.Bits.{bit_at-zero}
 use Rattle.std.specs.Int.{bit_at}
 use Rattle.std.specs.List.{All, filter, list_any, sum_by}
 use Rattle.tn_base.specs.declared.ids.Board.{Board}
@@ -220,11 +219,11 @@ pub each_once : (n : ShapeNumbers) (ts : List Target) (earlier : ℕ → ℕ) (l
 unfolding column_weight
 each_once n ts earlier lists x y l hx hy h f = record {
   once = λ w.
-  sums_same (λ (q : Hop). sum_by (λ e. w q.receiver e q.local) (lists q.receiver q.local)) (found_weight w lists) (tree_hops n (spots_for ts earlier) (at x y)) (found_is w lists)
-  ∙ weigh_tree (found_weight w lists) n (spots_for ts earlier) x y hx hy
-  ∙ total_same (λ x. total (board_weight (found_weight w lists) (spots_for ts earlier) x) n.boards_y) (λ x. total (λ y. board_total w earlier ts (y * 4 + x)) n.boards_y) n.boards_x
-  (λ i hi. total_same (board_weight (found_weight w lists) (spots_for ts earlier) i) (λ y. board_total w earlier ts (y * 4 + i)) n.boards_y
-  (λ j hj. let mx = l.boards_x.1 in let my = l.boards_y.1 in board_is w lists ts earlier i j (omega arith) (omega arith) f))
-  ∙ all_boards w earlier n ts l h
-  ∙ weigh_is (λ (t : Target). w t.thread.0 t.edge (earlier (t.thread.0 / 64))) ts;
+      sums_same (λ (q : Hop). sum_by (λ e. w q.receiver e q.local) (lists q.receiver q.local)) (found_weight w lists) (tree_hops n (spots_for ts earlier) (at x y)) (found_is w lists)
+      ∙ weigh_tree (found_weight w lists) n (spots_for ts earlier) x y hx hy
+      ∙ total_same (λ x. total (board_weight (found_weight w lists) (spots_for ts earlier) x) n.boards_y) (λ x. total (λ y. board_total w earlier ts (y * 4 + x)) n.boards_y) n.boards_x
+      (λ i hi. total_same (board_weight (found_weight w lists) (spots_for ts earlier) i) (λ y. board_total w earlier ts (y * 4 + i)) n.boards_y
+      (λ j hj. let mx = l.boards_x.1 in let my = l.boards_y.1 in board_is w lists ts earlier i j (omega arith) (omega arith) f))
+      ∙ all_boards w earlier n ts l h
+      ∙ weigh_is (λ (t : Target). w t.thread.0 t.edge (earlier (t.thread.0 / 64))) ts;
 }

@@ -1,15 +1,14 @@
 -- The boards of a tree are all boards of the machine, each once.
-use Rattle.std.proofs.Common.{◌≡◌, ◌≢◌, ◌<◌, ◌≤◌, ℕ, suc, zero, ◌+◌, ◌-◌, ◌*◌, ◌/◌, ◌%◌, eqb, ltb, cond, Bool, true, false, List, [], ◌∷◌, ◌++◌, length, refl, sym, ◌∙◌, ap, arith, Option, Some, None}
+use Rattle.std.proofs.Common.{◌≡◌, ◌<◌, ◌≤◌, ℕ, suc, zero, ◌+◌, ◌-◌, ltb, cond, Bool, true, false, List, ◌++◌, refl, sym, ◌∙◌, ap, arith, Some, None}
 use Rattle.std.proofs.lemmas.Bool.Decides.{nat_tests}
 use Rattle.tn_base.specs.declared.ids.Board.{Board}
 use Rattle.tn_base.specs.declared.shape.ShapeNumbers.{ShapeNumbers}
-use Rattle.tn_keys.specs.Copies.{each_below, neighbour}
+use Rattle.tn_keys.specs.Copies.{neighbour}
 use Rattle.tn_sums.specs.Totals.{total, weigh}
 use Rattle.tn_sums.proofs.Laws.{total-suc, total_nothing, weigh-append}
 use Rattle.polite_routes.specs.declared.target.Spot.{Spot}
 use Rattle.polite_routes.specs.Hops.{Hop}
 use Rattle.polite_routes.proofs.Leading.{here}
-use Rattle.polite_routes.proofs.Ranges.{below_suc}
 use Rattle.polite_routes.proofs.Trees.{column_hops, row_hops, tree_hops}
 
 abbrev pub at : ℕ → ℕ → Board

@@ -1,5 +1,5 @@
 -- A tree that is planted keeps a table that is too long.
-use Rattle.std.proofs.Common.{◌≡◌, ℕ, suc, zero, ◌-◌, ◌<◌, true, List, ◌∷◌, [], refl, sym, ◌∙◌, ap, arith, Option, Some, None}
+use Rattle.std.proofs.Common.{◌≡◌, ℕ, suc, zero, true, List, ◌∷◌, [], refl, Option, Some, None}
 use Rattle.tn_base.specs.declared.ids.Board.{Board}
 use Rattle.tn_base.specs.declared.shape.ShapeNumbers.{ShapeNumbers}
 use Rattle.tn_keys.specs.Copies.{neighbour}

@@ -1,16 +1,14 @@
 -- Tables that grow: each key that names beats that are there keeps its records.
-use Rattle.std.proofs.Common.{◌≡◌, ◌≢◌, ◌<◌, ◌≤◌, ℕ, suc, zero, ◌+◌, ◌*◌, ◌/◌, ◌%◌, eqb, ltb, cond, Bool, true, false, ◌||◌, List, [], ◌∷◌, ◌++◌, length, take, drop, get_or, set, append_assoc, refl, sym, ◌∙◌, ap, arith, Option, Some, None, length-append, length-set}
+use Rattle.std.proofs.Common.{◌≡◌, ◌≢◌, ◌<◌, ◌≤◌, ℕ, suc, ◌+◌, ◌/◌, ◌%◌, eqb, cond, Bool, true, false, List, [], ◌∷◌, ◌++◌, length, take, drop, get_or, set, append_assoc, refl, sym, ◌∙◌, ap, arith, length-append, length-set}
 use Rattle.std.proofs.lemmas.Bool.Decides.{nat_tests}
 use Rattle.std.proofs.lemmas.Grind.{common_steps}
 use Rattle.std.proofs.lemmas.List.{get_or-set_other, get_or-set_same}
-use Rattle.std.specs.List.{flat_map}
 use Rattle.tn_base.specs.declared.ids.Board.{Board}
 use Rattle.tn_base.specs.declared.shape.ShapeNumbers.{ShapeNumbers}
-use Rattle.tn_base.specs.Parts.{board_count}
 use Rattle.tn_keys.specs.declared.record.RouteRec.{RouteRec}
 use Rattle.tn_keys.specs.Beat.{is_beat}
-use Rattle.tn_keys.specs.Tables.{HasBoard, Table, beats_in, board_place, is_bad_key, joined, records_at, records_of, table_of}
-use Rattle.polite_routes.specs.Pack.{filled, key_for, key_of, pack, with_records}
+use Rattle.tn_keys.specs.Tables.{Table, beats_in, board_place, is_bad_key, joined, records_at, records_of, table_of}
+use Rattle.polite_routes.specs.Pack.{filled, key_of, pack, with_records}
 
 pub record Grows (n : ShapeNumbers) (ts us : List Table) : Type 0 where
   pub good : (b : Board) (key : ℕ) → is_bad_key (length (table_of n ts b)) key ≡ false → is_bad_key (length (table_of n us b)) key ≡ false
@@ -144,7 +142,7 @@ given n b r rs ts h few =
     record {
       good = good;
       records = records_good (table_of n (with_records n b qs ts) b) key good
-      ∙ ap (λ x. joined (beats_in x key)) t
-      ∙ ap joined (part_new (List RouteRec) (key / 256) (key % 256) (table_of n ts b) (pack qs) first count)
-      ∙ joined_pack qs;
+          ∙ ap (λ x. joined (beats_in x key)) t
+          ∙ ap joined (part_new (List RouteRec) (key / 256) (key % 256) (table_of n ts b) (pack qs) first count)
+          ∙ joined_pack qs;
     }

@@ -1,13 +1,12 @@
 -- The trees of pins, one after another, as they are planted.
-use Rattle.std.proofs.Common.{◌≡◌, ◌<◌, ◌≤◌, ℕ, suc, zero, ◌+◌, ◌^◌, ◌-◌, eqb, ltb, cond, Bool, true, false, ◌||◌, List, [], ◌∷◌, ◌++◌, length, get_or, map, take, drop, replicate, refl, sym, ◌∙◌, ap, arith, Option, Result, Ok, Err, subst, length-append}
+use Rattle.std.proofs.Common.{◌≡◌, ◌<◌, ◌≤◌, ℕ, suc, zero, ◌+◌, ◌^◌, ◌-◌, eqb, ltb, cond, Bool, true, false, ◌||◌, List, [], ◌∷◌, ◌++◌, length, get_or, map, take, replicate, refl, sym, ◌∙◌, ap, arith, Option, Result, Ok, Err, subst}
 use Rattle.std.proofs.lemmas.Bool.Decides.{nat_tests}
 use Rattle.std.proofs.lemmas.Bool.{ltb-false, or_parts}
 use Rattle.std.proofs.lemmas.Grind.{common_steps}
-use Rattle.std.proofs.lemmas.List.{get_or_default, get_or_past, length-replicate}
+use Rattle.std.proofs.lemmas.List.{get_or_default, get_or_past}
 use Rattle.std.proofs.lemmas.List.FromFn.{fill_by_all, get_or-map-range_with_len, length-map-range_with_len, map-range_with_len_more}
-use Rattle.std.specs.List.{All, list_any, range_with_len}
+use Rattle.std.specs.List.{list_any, range_with_len}
 use Rattle.std.specs.Result.{IsErrAnd}
-use Rattle.tn_base.specs.declared.ids.Board.{Board}
 use Rattle.tn_base.specs.declared.shape.ShapeNumbers.{ShapeNumbers}
 use Rattle.tn_base.specs.Parts.{board_count}
 use Rattle.tn_keys.specs.Tables.{Table}
@@ -19,7 +18,7 @@ use Rattle.polite_routes.specs.declared.target.Spot.{Spot}
 use Rattle.polite_routes.specs.declared.target.Target.{Target}
 use Rattle.polite_routes.specs.Full.{Gives, is_full}
 use Rattle.polite_routes.specs.Routes.{IsPlanting, Lays, PinThere, PinsThere, key_at, keys_full, keys_to, local_of, pin_at, planting, spots_of, tables_after, tables_of, tree_of, trees_to}
-use Rattle.polite_routes.specs.Targets.{AllLow, Narrow, count_in, mask_of, one_more, reaches, spot, spot_at, spot_for, spots_for}
+use Rattle.polite_routes.specs.Targets.{Narrow, count_in, mask_of, one_more, reaches, spot, spot_at, spot_for, spots_for}
 use Rattle.polite_routes.specs.Tree.{Planted, tree}
 use Rattle.polite_routes.proofs.Growing.{full_tree}
 use Rattle.polite_routes.proofs.Marking.{counted, mask_reached, no_pin, pins_one, trees_few, trees_push}

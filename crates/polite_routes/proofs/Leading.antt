@@ -1,26 +1,25 @@
 -- A key leads to the targets of its board and of those behind.
-use Rattle.std.proofs.Common.{◌≡◌, ◌<◌, ◌≤◌, ℕ, suc, zero, ◌+◌, ◌-◌, ◌*◌, eqb, cond, Bool, true, false, List, [], ◌∷◌, ◌++◌, length, map, append_assoc, append-nil, refl, sym, ◌∙◌, ap, arith, Option, Some, None, subst}
+use Rattle.std.proofs.Common.{◌≡◌, ◌<◌, ◌≤◌, ℕ, suc, zero, ◌+◌, eqb, cond, Bool, true, false, List, [], ◌∷◌, ◌++◌, length, map, append-nil, refl, sym, ◌∙◌, ap, arith, Option, Some, None}
 use Rattle.std.proofs.lemmas.List.{map-append}
 use Rattle.std.specs.Int.{bit_at}
 use Rattle.std.specs.List.{flat_map, range_with_len}
 use Rattle.tn_base.specs.declared.ids.Board.{Board}
 use Rattle.tn_base.specs.declared.shape.ShapeNumbers.{ShapeNumbers}
 use Rattle.tn_base.specs.Mask.{names_threads}
-use Rattle.tn_base.specs.Parts.{board_count}
 use Rattle.tn_keys.specs.declared.record.RouteRec.{RouteRec}
-use Rattle.tn_keys.specs.declared.record.RouteRec.TheVariants.{Rr, Mrm}
+use Rattle.tn_keys.specs.declared.record.RouteRec.TheVariants.{Mrm}
 use Rattle.tn_keys.specs.Accepted.{has_place}
 use Rattle.tn_keys.specs.Copies.{Copy, copy_to, each_below, keyed, led, masked_copies, neighbour, only_if, onto, tile_address}
 use Rattle.tn_keys.specs.Reach.{reach_by, walk}
-use Rattle.tn_keys.specs.Tables.{HasBoard, Table, board_place, is_bad_key, records_of, table_of}
+use Rattle.tn_keys.specs.Tables.{HasBoard, Table, board_place, table_of}
 use Rattle.polite_routes.specs.declared.target.Spot.{Spot}
 use Rattle.polite_routes.specs.declared.tree.Child.{Child}
 use Rattle.polite_routes.specs.Hops.{Hop, arrives, hop, reach_from}
-use Rattle.polite_routes.specs.Pack.{key_for, key_in, key_of, pack, with_records}
-use Rattle.polite_routes.specs.Straight.{At, Straight, StraightFrom, StraightOf, StraightRecords, may}
+use Rattle.polite_routes.specs.Pack.{key_for, key_of, pack, with_records}
+use Rattle.polite_routes.specs.Straight.{Straight, StraightOf, StraightRecords, may}
 use Rattle.polite_routes.specs.Targets.{spot_at}
-use Rattle.polite_routes.specs.Tree.{child, mrm, mrms, planted, rr, rrs, tile_index, tree_records}
-use Rattle.polite_routes.proofs.Grows.{Given, Grows, given, grows_with}
+use Rattle.polite_routes.specs.Tree.{mrm, mrms, planted, rr, rrs, tile_index, tree_records}
+use Rattle.polite_routes.proofs.Grows.{Grows, given, grows_with}
 use Rattle.polite_routes.proofs.Ranges.{below_suc}
 use Rattle.polite_routes.proofs.Records.{few_records}
 use Rattle.polite_routes.proofs.Walks.{reach_grows, reach_suc, straight_append, straight_grows, straight_map, straight_up, walk_append, walk_same}

@@ -1,5 +1,5 @@
 -- Masks and counts, edge by edge and tree by tree.
-use Rattle.std.proofs.Common.{◌≡◌, ◌≢◌, ◌<◌, ◌≤◌, ℕ, suc, zero, ◌+◌, ◌*◌, ◌/◌, ◌%◌, eqb, cond, Bool, true, false, ◌||◌, List, [], ◌∷◌, ◌++◌, length, get_or, set, map, take, replicate, refl, sym, ◌∙◌, ap, arith, length-set}
+use Rattle.std.proofs.Common.{◌≡◌, ◌≢◌, ◌<◌, ◌≤◌, ℕ, ◌+◌, ◌*◌, ◌/◌, ◌%◌, eqb, cond, Bool, true, false, ◌||◌, List, [], ◌∷◌, ◌++◌, length, get_or, set, map, take, replicate, refl, sym, ◌∙◌, ap, arith, length-set}
 use Rattle.std.proofs.lemmas.Bool.Decides.{nat_tests}
 use Rattle.std.proofs.lemmas.Bool.{or_parts}
 use Rattle.std.proofs.lemmas.Grind.{common_steps}
@@ -7,12 +7,11 @@ use Rattle.std.proofs.lemmas.List.{get_or-replicate, get_or-set_other, get_or-se
 use Rattle.std.proofs.lemmas.List.FromFn.{fill_by_all, get_or-map-range_with_len, length-map-range_with_len}
 use Rattle.std.specs.List.{list_any, range_with_len}
 use Rattle.tn_base.specs.Mask.{with_bit}
-use Rattle.polite_routes.specs.declared.target.InEdge.{InEdge}
 use Rattle.polite_routes.specs.declared.target.Pin.{Pin}
 use Rattle.polite_routes.specs.declared.target.Target.{Target}
-use Rattle.polite_routes.specs.Routes.{counts_of, trees_to}
+use Rattle.polite_routes.specs.Routes.{trees_to}
 use Rattle.polite_routes.specs.Targets.{AllLow, leads_to, mask_of, mask_with, masks_for, one_more, reaches, spot, spot_for, spot_of, spots_for}
-use Rattle.polite_routes.proofs.Marks.{mask_bit, no_bits, to}
+use Rattle.polite_routes.proofs.Marks.{no_bits, to}
 
 abbrev pub no_target : Target
 no_target = record { thread = record { 0 = 0 }; edge = record { device = 0; value = 0; edge = 0 } }

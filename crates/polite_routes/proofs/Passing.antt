@@ -1,9 +1,9 @@
 -- The tables of trees pass each test but that of width.
-use Rattle.std.proofs.Common.{◌≡◌, ◌≢◌, ◌<◌, ◌≤◌, ℕ, suc, zero, ◌+◌, ◌-◌, ◌*◌, ◌/◌, ◌%◌, eqb, ltb, cond, Bool, true, false, not, ◌||◌, List, [], ◌∷◌, ◌++◌, length, refl, sym, ◌∙◌, ap, arith, Option, Some, None, subst}
+use Rattle.std.proofs.Common.{◌≡◌, ◌≢◌, ◌<◌, ℕ, suc, zero, ◌+◌, ◌*◌, ◌/◌, ◌%◌, eqb, Bool, true, false, not, ◌||◌, List, [], ◌∷◌, ◌++◌, length, refl, sym, ◌∙◌, ap, arith, Option, Some, None, subst}
 use Rattle.std.proofs.lemmas.Bool.Decides.{nat_tests}
 use Rattle.std.proofs.lemmas.Bool.{le-ltb}
 use Rattle.std.proofs.lemmas.List.Sums.{sum_by-append, sum_by-cons}
-use Rattle.std.proofs.lemmas.Nat.{div-mul-add, mod-mul-add, mul-add-lt}
+use Rattle.std.proofs.lemmas.Nat.{div-mul-add, mod-mul-add}
 use Rattle.std.proofs.Math.Nat.{div-lt_iff_lt-mul, mul_comm}
 use Rattle.std.proofs.lemmas.List.{get_or-set_other}
 use Rattle.std.specs.Prelude.{is_none}
@@ -11,19 +11,17 @@ use Rattle.std.specs.List.{list_any, sum_by}
 use Rattle.tn_base.specs.declared.ids.Board.{Board}
 use Rattle.tn_base.specs.declared.shape.ShapeNumbers.{ShapeNumbers}
 use Rattle.tn_base.specs.Parts.{board_at, board_count}
-use Rattle.tn_keys.specs.declared.fault.TableFault.{TableFault}
 use Rattle.tn_keys.specs.declared.fault.TableFault.TheVariants as fault
-use Rattle.tn_keys.specs.declared.onward.Onward.{Onward}
 use Rattle.tn_keys.specs.declared.record.RouteRec.{RouteRec}
 use Rattle.tn_keys.specs.declared.record.RouteRec.TheVariants.{Urm1, Urm2, Rr, Mrm, Ind}
-use Rattle.tn_keys.specs.Accepted.{bad_onward, bad_range, bad_thread, beyond, board_fault, chains, empty_mask, gathered, leads, loops, nothing, off_machine, too_wide, unless}
+use Rattle.tn_keys.specs.Accepted.{bad_onward, bad_range, bad_thread, beyond, board_fault, chains, empty_mask, gathered, loops, off_machine, too_wide, unless}
 use Rattle.tn_keys.specs.Copies.{neighbour, onto, onward}
-use Rattle.tn_keys.specs.Tables.{HasBoard, Table, beats_in, board_place, is_bad_key, joined, records_at, records_of, table_of}
+use Rattle.tn_keys.specs.Tables.{HasBoard, Table, beats_in, board_place, is_bad_key, joined, records_of, table_of}
 use Rattle.polite_routes.specs.Pack.{pack, with_records}
 use Rattle.polite_routes.specs.Passes.{IsWidth, PassesButWidth}
 use Rattle.polite_routes.specs.Straight.{At, Straight, StraightRecord, StraightRecords}
 use Rattle.polite_routes.proofs.Grows.{Grows, grows_with, joined_pack, records_good, table_here}
-use Rattle.polite_routes.proofs.Walks.{straight_any, straight_append, straight_back, straight_front, straight_grows, straight_map, straight_up}
+use Rattle.polite_routes.proofs.Walks.{straight_append, straight_back, straight_front, straight_grows, straight_map}
 
 -- each record of some beats is one of a tree
 abbrev pub BeatsStraight : ℕ → ShapeNumbers → List Table → Board → Table → Type 0

@@ -1,15 +1,14 @@
 -- The records of a tree at a board.
-use Rattle.std.proofs.Common.{◌≡◌, ◌<◌, ◌≤◌, ℕ, suc, zero, ◌+◌, ◌*◌, ◌/◌, ◌%◌, ◌-◌, ◌^◌, eqb, ltb, cond, Bool, true, false, ◌&&◌, not, List, [], ◌∷◌, ◌++◌, length, get_or, append_assoc, append-nil, refl, sym, ◌∙◌, ap, arith, Option, Some, None, length-append}
-use Rattle.std.proofs.lemmas.Bool.{and_parts, lt-ltb, ltb-true}
+use Rattle.std.proofs.Common.{◌≡◌, ◌<◌, ◌≤◌, ℕ, suc, zero, ◌+◌, ◌^◌, eqb, cond, Bool, true, false, ◌&&◌, List, [], ◌∷◌, ◌++◌, length, refl, sym, ◌∙◌, ap, arith, Option, Some, None, length-append}
+use Rattle.std.proofs.lemmas.Bool.{and_parts, lt-ltb}
 use Rattle.std.specs.List.{list_all}
 use Rattle.tn_base.specs.declared.ids.Board.{Board}
 use Rattle.tn_keys.specs.declared.record.RouteRec.{RouteRec}
 use Rattle.tn_keys.specs.declared.record.RouteRec.TheVariants.{Rr, Mrm}
-use Rattle.tn_keys.specs.Beat.{is_beat}
 use Rattle.polite_routes.specs.declared.target.Spot.{Spot}
 use Rattle.polite_routes.specs.declared.tree.Child.{Child}
 use Rattle.polite_routes.specs.Pack.{is_alone}
-use Rattle.polite_routes.specs.Targets.{Narrow, spot_at}
+use Rattle.polite_routes.specs.Targets.{spot_at}
 use Rattle.polite_routes.specs.Tree.{Few, mrm, mrms, rr, rrs, tile_index, tree_records}
 use Rattle.polite_routes.proofs.Ranges.{below_one, below_suc}
 

@@ -1,41 +1,35 @@
 -- One pin after another.
-use Rattle.std.proofs.Common.{◌≡◌, ◌≢◌, ◌<◌, ◌≤◌, ℕ, suc, zero, ◌+◌, ◌-◌, ◌*◌, ◌/◌, ◌%◌, eqb, ltb, cond, Bool, true, false, not, ◌||◌, ◌&&◌, List, [], ◌∷◌, ◌++◌, length, get_or, map, take, replicate, refl, sym, ◌∙◌, ap, arith, Option, Some, None, subst, IsTrue}
+use Rattle.std.proofs.Common.{◌≡◌, ◌<◌, ◌≤◌, ℕ, suc, zero, ◌+◌, ◌*◌, ◌/◌, ◌%◌, eqb, cond, Bool, true, false, ◌||◌, List, [], ◌∷◌, length, get_or, map, take, replicate, refl, sym, ◌∙◌, ap, arith, Option, Some, None, subst}
 use Rattle.std.proofs.lemmas.Bool.Decides.{nat_tests}
-use Rattle.std.proofs.lemmas.Bool.{lt-ltb, or_parts}
+use Rattle.std.proofs.lemmas.Bool.{lt-ltb}
 use Rattle.std.proofs.lemmas.List.{length-replicate}
-use Rattle.std.proofs.lemmas.Nat.Bits.{bit_at-zero}
 use Rattle.std.specs.Int.{bit_at}
 use Rattle.std.specs.List.{All, filter, list_any}
 use Rattle.tn_base.specs.declared.ids.Board.{Board}
 use Rattle.tn_base.specs.declared.shape.ShapeNumbers.{ShapeNumbers}
 use Rattle.tn_base.specs.Address.{has_thread}
-use Rattle.tn_base.specs.Mask.{names_threads, with_bit}
+use Rattle.tn_base.specs.Mask.{names_threads}
 use Rattle.tn_base.specs.Parts.{board_count}
 use Rattle.tn_base.specs.Shape.{WithinLimits}
 use Rattle.tn_keys.specs.Accepted.{has_place}
-use Rattle.tn_keys.specs.Copies.{led, onto}
 use Rattle.tn_keys.specs.Reach.{reach}
-use Rattle.tn_keys.specs.Tables.{HasBoard, Table, board_place, table_of}
-use Rattle.polite_routes.specs.declared.target.InEdge.{InEdge}
+use Rattle.tn_keys.specs.Tables.{HasBoard, Table, board_place}
 use Rattle.polite_routes.specs.declared.target.Pin.{Pin}
 use Rattle.polite_routes.specs.declared.target.Spot.{Spot}
 use Rattle.polite_routes.specs.declared.target.Target.{Target}
-use Rattle.polite_routes.specs.Hops.{Hop, arrives, reach_from, reach_of}
-use Rattle.polite_routes.specs.Once.{AllThere, EachOnce, Listed, Lists}
+use Rattle.polite_routes.specs.Hops.{reach_from, reach_of}
+use Rattle.polite_routes.specs.Once.{AllThere, Listed}
 use Rattle.polite_routes.specs.Passes.{PassesButWidth}
 use Rattle.polite_routes.specs.Routes.{PinRouted, PinThere, PinsThere, in_lists, key_at, lists_to, local_of, pin_at, spots_of, tables_after, tables_of, tree_of, trees_to}
-use Rattle.polite_routes.specs.Straight.{StraightFrom, StraightOf}
-use Rattle.polite_routes.specs.Targets.{edges_to, leads_to, mask_of, mask_with, reaches, spot_at, spot_for, spots_for}
-use Rattle.polite_routes.specs.Tree.{tile_index, tree}
-use Rattle.polite_routes.proofs.Each.{Parts, each_once, parts}
-use Rattle.polite_routes.proofs.Grid.{at}
-use Rattle.polite_routes.proofs.Grows.{Grows, grows_refl, grows_trans}
+use Rattle.polite_routes.specs.Targets.{edges_to, mask_of, reaches, spots_for}
+use Rattle.polite_routes.specs.Tree.{tile_index}
+use Rattle.polite_routes.proofs.Each.{each_once, parts}
 use Rattle.polite_routes.proofs.Leading.{Leads, Sound, leads_grows, leads_up}
 use Rattle.polite_routes.proofs.Marking.{no_mask}
-use Rattle.polite_routes.proofs.Marks.{mask_bit, spot_is, to, to_tile}
+use Rattle.polite_routes.proofs.Marks.{mask_bit, spot_is, to}
 use Rattle.tn_base.proofs.NamesThreads.{names_from}
 use Rattle.polite_routes.proofs.Passing.{AllStraight, BeatsStraight, passes}
-use Rattle.polite_routes.proofs.Trees.{Plants, depth, plants_tree, tree_hops}
+use Rattle.polite_routes.proofs.Trees.{depth, plants_tree, tree_hops}
 
 -- a tile with targets has a thread of the machine to which an edge leads
 pub record Reached (n : ShapeNumbers) (i : ℕ) : Type 0 where
@@ -85,12 +79,12 @@ bits_there n ts i k h l e =
 pub sound_spots : (n : ShapeNumbers) (ts : List Target) (earlier : ℕ → ℕ) → WithinLimits n → AllThere n ts → Sound n (spots_for ts earlier)
 sound_spots n ts earlier l h = record {
   place = λ b tile hb ht e.
-  let small = index_small n b tile l hb ht in
-  let m : eqb (mask_of ts (tile_index b tile)) 0 ≡ false = ap (λ (s : Spot). eqb s.mask 0) (sym (spot_is ts earlier (tile_index b tile) small)) ∙ e in
-  place_there n b tile ht (reached n ts (tile_index b tile) h.there (some_target ts (tile_index b tile) (reaches ts (tile_index b tile)) refl m));
+      let small = index_small n b tile l hb ht in
+      let m : eqb (mask_of ts (tile_index b tile)) 0 ≡ false = ap (λ (s : Spot). eqb s.mask 0) (sym (spot_is ts earlier (tile_index b tile) small)) ∙ e in
+      place_there n b tile ht (reached n ts (tile_index b tile) h.there (some_target ts (tile_index b tile) (reaches ts (tile_index b tile)) refl m));
   threads = λ b tile hb ht e.
-  let small = index_small n b tile l hb ht in
-  ap (λ (s : Spot). names_threads n s.mask) (spot_is ts earlier (tile_index b tile) small) ∙ names_from n (mask_of ts (tile_index b tile)) (λ k kl q. bits_there n ts (tile_index b tile) k h kl q);
+      let small = index_small n b tile l hb ht in
+      ap (λ (s : Spot). names_threads n s.mask) (spot_is ts earlier (tile_index b tile) small) ∙ names_from n (mask_of ts (tile_index b tile)) (λ k kl q. bits_there n ts (tile_index b tile) k h kl q);
 } where
   index_small : (n : ShapeNumbers) (b : Board) (tile : ℕ) → WithinLimits n → HasBoard n b → tile < 16 → tile_index b tile < 256
   index_small n b tile l h t = let x = h.0 in let y = h.1 in let mx = l.boards_x.1 in let my = l.boards_y.1 in omega arith
@@ -150,7 +144,7 @@ laid_more n pins j l h s =
       count = p.count ∙ s.count;
       straight = p.keeps (depth n) (omega arith) s.straight;
       leads = λ i q. leads_by n pins i j (tree_of n pins j ts).tables (eqb i j) refl q
-      (λ r. leads_grows (depth n) n ts (tree_of n pins j ts).tables 4 (Some (pin_at pins i).board) (key_at n pins i) (tree_hops n (spots_of pins i) (pin_at pins i).board) p.grows (s.leads i r)) p.leads;
+          (λ r. leads_grows (depth n) n ts (tree_of n pins j ts).tables 4 (Some (pin_at pins i).board) (key_at n pins i) (tree_hops n (spots_of pins i) (pin_at pins i).board) p.grows (s.leads i r)) p.leads;
     })
 
 pub laid : (n : ShapeNumbers) (pins : List Pin) (j : ℕ) → WithinLimits n → PinsThere n pins → j ≤ length pins → Laid n pins j

@@ -1,5 +1,5 @@
 -- The boards of a tree, each behind those to which it leads.
-use Rattle.std.proofs.Common.{◌≡◌, ◌<◌, ◌≤◌, ℕ, suc, zero, ◌+◌, ◌*◌, ◌-◌, eqb, ltb, cond, Bool, true, false, List, [], ◌∷◌, ◌++◌, length, append-nil, refl, sym, ◌∙◌, ap, arith, Option, Some, None, subst}
+use Rattle.std.proofs.Common.{◌≡◌, ◌<◌, ◌≤◌, ℕ, suc, zero, ◌+◌, ◌-◌, eqb, ltb, cond, Bool, true, false, List, [], ◌∷◌, ◌++◌, length, append-nil, refl, sym, ◌∙◌, arith, Option, Some, None}
 use Rattle.std.proofs.lemmas.Bool.Decides.{nat_tests}
 use Rattle.std.proofs.lemmas.Nat.{mul-add-lt}
 use Rattle.tn_base.specs.declared.ids.Board.{Board}
@@ -76,10 +76,10 @@ plants_board m n ts us last b ss cs hops g l e few h s f under =
       count = length_with n b (tree_records ss b cs) us ∙ l;
       leads = leads_planted m n us last b ss cs hops p few h s f;
       keeps = λ k q a.
-      let rs : List RouteRec = tree_records ss b cs in
-      let here_straight : StraightRecords (Straight m n us) n last b rs = straight_append (Straight m n us) n last b (mrms ss b 16) (rrs cs) (straight_mrms (Straight m n us) n last b ss 16 h s (omega arith)) (straight_rrs m n us last b cs hops f) in
-      all_with k n b rs us p h (under k (omega arith) a)
-      (straight_map (Straight m n us) (Straight k n us) n 4 b rs (λ d c j x. straight_up m k n us d c j (omega arith) x) (straight_any (Straight m n us) n last b rs here_straight));
+          let rs : List RouteRec = tree_records ss b cs in
+          let here_straight : StraightRecords (Straight m n us) n last b rs = straight_append (Straight m n us) n last b (mrms ss b 16) (rrs cs) (straight_mrms (Straight m n us) n last b ss 16 h s (omega arith)) (straight_rrs m n us last b cs hops f) in
+          all_with k n b rs us p h (under k (omega arith) a)
+          (straight_map (Straight m n us) (Straight k n us) n 4 b rs (λ d c j x. straight_up m k n us d c j (omega arith) x) (straight_any (Straight m n us) n last b rs here_straight));
     }
 
 pub plants_column : (n : ShapeNumbers) (ss : List Spot) (d m : ℕ) (at : Option Board) (ts : List Table) → may d d ≡ true → HasAt n at → Sound n ss → length ts ≡ board_count n → Plants m n ts (column n ss d m at ts) d at (column_hops n ss d m at)
@@ -109,10 +109,21 @@ plants_row n ss d (suc m) (Some b) ts t x y h s e =
     let i : suc k ≡ suc m + n.boards_y = omega arith in
     rw (← i) (plants_board k n ts above.tables d b ss (child d ahead.key ∷ child 2 below.key ∷ child 3 above.key ∷ [])
     (row_hops n ss d m (neighbour n d b) ++ (column_hops n ss 2 n.boards_y (neighbour n 2 b) ++ column_hops n ss 3 n.boards_y (neighbour n 3 b)))
-    (grows_trans n ts ahead.tables above.tables p.grows (grows_trans n ahead.tables below.tables above.tables q.grows r.grows)) (r.count ∙ (q.count ∙ p.count)) e (omega arith) h s
-    (row_hops n ss d m (neighbour n d b), column_hops n ss 2 n.boards_y (neighbour n 2 b) ++ column_hops n ss 3 n.boards_y (neighbour n 3 b), refl, t, lp,
-    (column_hops n ss 2 n.boards_y (neighbour n 2 b), column_hops n ss 3 n.boards_y (neighbour n 3 b), refl, x, lq,
-    (column_hops n ss 3 n.boards_y (neighbour n 3 b), [], sym (append-nil (column_hops n ss 3 n.boards_y (neighbour n 3 b))), y, lr, refl)))
+    (grows_trans n ts ahead.tables above.tables p.grows (grows_trans n ahead.tables below.tables above.tables q.grows r.grows)) (r.count ∙ (q.count ∙ p.count)) e (omega arith) h s (
+      row_hops n ss d m (neighbour n d b),
+      column_hops n ss 2 n.boards_y (neighbour n 2 b) ++ column_hops n ss 3 n.boards_y (neighbour n 3 b),
+      refl,
+      t,
+      lp,
+      (
+        column_hops n ss 2 n.boards_y (neighbour n 2 b),
+        column_hops n ss 3 n.boards_y (neighbour n 3 b),
+        refl,
+        x,
+        lq,
+        (column_hops n ss 3 n.boards_y (neighbour n 3 b), [], sym (append-nil (column_hops n ss 3 n.boards_y (neighbour n 3 b))), y, lr, refl),
+      ),
+    )
     (λ j l a. r.keeps j (omega arith) (q.keeps j (omega arith) (p.keeps j l a))))
 
 -- the whole tree: at most so many records lead on one after the other
@@ -139,9 +150,26 @@ plants_tree n ss b ts h s e =
     let lr = leads_up n.boards_y k n above.tables 3 (neighbour n 3 b) above.key (column_hops n ss 3 n.boards_y (neighbour n 3 b)) (omega arith) r.leads in
     plants_board k n ts above.tables 4 b ss (child 0 east.key ∷ child 1 west.key ∷ child 2 below.key ∷ child 3 above.key ∷ [])
     (row_hops n ss 0 n.boards_x (neighbour n 0 b) ++ (row_hops n ss 1 n.boards_x (neighbour n 1 b) ++ (column_hops n ss 2 n.boards_y (neighbour n 2 b) ++ column_hops n ss 3 n.boards_y (neighbour n 3 b))))
-    (grows_trans n ts east.tables above.tables p.grows g2) (r.count ∙ (q.count ∙ (o.count ∙ p.count))) e (omega arith) h s
-    (row_hops n ss 0 n.boards_x (neighbour n 0 b), row_hops n ss 1 n.boards_x (neighbour n 1 b) ++ (column_hops n ss 2 n.boards_y (neighbour n 2 b) ++ column_hops n ss 3 n.boards_y (neighbour n 3 b)), refl, refl, lp,
-    (row_hops n ss 1 n.boards_x (neighbour n 1 b), column_hops n ss 2 n.boards_y (neighbour n 2 b) ++ column_hops n ss 3 n.boards_y (neighbour n 3 b), refl, refl, lo,
-    (column_hops n ss 2 n.boards_y (neighbour n 2 b), column_hops n ss 3 n.boards_y (neighbour n 3 b), refl, refl, lq,
-    (column_hops n ss 3 n.boards_y (neighbour n 3 b), [], sym (append-nil (column_hops n ss 3 n.boards_y (neighbour n 3 b))), refl, lr, refl))))
+    (grows_trans n ts east.tables above.tables p.grows g2) (r.count ∙ (q.count ∙ (o.count ∙ p.count))) e (omega arith) h s (
+      row_hops n ss 0 n.boards_x (neighbour n 0 b),
+      row_hops n ss 1 n.boards_x (neighbour n 1 b) ++ (column_hops n ss 2 n.boards_y (neighbour n 2 b) ++ column_hops n ss 3 n.boards_y (neighbour n 3 b)),
+      refl,
+      refl,
+      lp,
+      (
+        row_hops n ss 1 n.boards_x (neighbour n 1 b),
+        column_hops n ss 2 n.boards_y (neighbour n 2 b) ++ column_hops n ss 3 n.boards_y (neighbour n 3 b),
+        refl,
+        refl,
+        lo,
+        (
+          column_hops n ss 2 n.boards_y (neighbour n 2 b),
+          column_hops n ss 3 n.boards_y (neighbour n 3 b),
+          refl,
+          refl,
+          lq,
+          (column_hops n ss 3 n.boards_y (neighbour n 3 b), [], sym (append-nil (column_hops n ss 3 n.boards_y (neighbour n 3 b))), refl, lr, refl),
+        ),
+      ),
+    )
     (λ j l a. r.keeps j (omega arith) (q.keeps j (omega arith) (o.keeps j l (p.keeps j l a))))

@@ -1,14 +1,13 @@
 -- Walks of the records of trees.
-use Rattle.std.proofs.Common.{◌≡◌, ◌<◌, ◌≤◌, ℕ, suc, zero, ◌+◌, eqb, cond, Bool, true, false, ◌||◌, List, [], ◌∷◌, ◌++◌, length, map, append_assoc, refl, sym, ◌∙◌, ap, arith, Option, Some, None, subst}
+use Rattle.std.proofs.Common.{◌≡◌, ◌≤◌, ℕ, suc, zero, List, [], ◌∷◌, ◌++◌, append_assoc, refl, sym, ◌∙◌, ap, arith, Option, Some, None}
 use Rattle.tn_base.specs.declared.ids.Board.{Board}
 use Rattle.tn_base.specs.declared.shape.ShapeNumbers.{ShapeNumbers}
 use Rattle.tn_keys.specs.declared.record.RouteRec.{RouteRec}
 use Rattle.tn_keys.specs.declared.record.RouteRec.TheVariants.{Urm1, Urm2, Rr, Mrm, Ind}
-use Rattle.tn_keys.specs.Copies.{Copy, copies_of, led, neighbour, onto, onward}
+use Rattle.tn_keys.specs.Copies.{Copy, copies_of, led, neighbour, onto}
 use Rattle.tn_keys.specs.Reach.{reach_by, walk}
-use Rattle.tn_keys.specs.Tables.{Table, is_bad_key, records_of, table_of}
-use Rattle.polite_routes.specs.Straight.{At, Straight, StraightFrom, StraightOf, StraightRecord, StraightRecords, may}
-use Rattle.polite_routes.specs.Hops.{Hop, arrives, reach_from}
+use Rattle.tn_keys.specs.Tables.{Table, records_of}
+use Rattle.polite_routes.specs.Straight.{At, Straight, StraightRecords}
 use Rattle.polite_routes.proofs.Grows.{Grows}
 
 abbrev pub Way : Type 1

@@ -1,5 +1,5 @@
 -- The routes of pins: one tree for each pin with an edge, in order, and the in-edges of each thread.
-use Rattle.std.specs.Prelude.{ℕ, suc, zero, ◌≡◌, ◌<◌, ◌+◌, ◌/◌, ◌*◌, Bool, true, false, List, [], ◌∷◌, length, map, nat_lt, replicate, slice_index_or, take, if◌then◌else◌}
+use Rattle.std.specs.Prelude.{ℕ, suc, zero, ◌≡◌, ◌+◌, ◌/◌, Bool, true, false, List, [], ◌∷◌, length, map, nat_lt, replicate, slice_index_or, take, if◌then◌else◌}
 use Rattle.std.specs.List.{All, filter, list_any, range_with_len}
 use Rattle.std.specs.declared.option.Option.{Option}
 use Rattle.std.specs.declared.option.Option.TheVariants.{Some}

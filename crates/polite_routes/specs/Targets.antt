@@ -1,5 +1,5 @@
 -- To which tiles and threads the edges of a pin lead.
-use Rattle.std.specs.Prelude.{ℕ, ◌≡◌, ◌<◌, length, ◌+◌, ◌*◌, ◌/◌, ◌%◌, ◌==◌, Bool, List, [], ◌∷◌, map, slice_index_or, if◌then◌else◌}
+use Rattle.std.specs.Prelude.{ℕ, ◌≡◌, ◌<◌, length, ◌+◌, ◌/◌, ◌%◌, ◌==◌, Bool, List, [], ◌∷◌, map, slice_index_or, if◌then◌else◌}
 use Rattle.std.specs.List.{All, filter, list_any, range_with_len}
 use Rattle.tn_base.specs.Mask.{with_bit}
 use Rattle.polite_routes.specs.declared.target.InEdge.{InEdge}

@@ -6,7 +6,7 @@
 
 mod draft;
 pub mod laws;
-mod planting;
+pub mod planting;
 mod spots;
-mod tree;
 pub mod target;
+mod tree;

@@ -18,7 +18,12 @@ use std::marker::Model;
 use tn_base::shape::Shape;
 
 /// Counts the trees of pins at each tile.
-fn count_all(alloc: Global, shape: &Shape, pins: &[Pin], counts: &mut [u32]) -> Result<(), AllocError>
+fn count_all(
+    alloc: Global,
+    shape: &Shape,
+    pins: &[Pin],
+    counts: &mut [u32],
+) -> Result<(), AllocError>
     requires there { PinsThere shape.now pins.now }
     requires few { length pins.now ≤ 262144 }
     requires room { length counts.old ≡ 256 }
@@ -127,11 +132,7 @@ pub struct Planting {
 }
 
 /// Plants the trees of pins in order.
-pub(crate) fn plant_pins(
-    alloc: Global,
-    shape: &Shape,
-    pins: &[Pin],
-) -> Result<Planting, RouteStop>
+pub fn plant_pins(alloc: Global, shape: &Shape, pins: &[Pin]) -> Result<Planting, RouteStop>
     requires there { PinsThere shape.now pins.now }
     requires few { length pins.now ≤ 262144 }
     ensures { IsPlanting result (planting shape.now pins.now) }

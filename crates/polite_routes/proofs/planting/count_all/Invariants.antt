@@ -1,4 +1,4 @@
-use Rattle.std.proofs.Common.{◌≡◌, ◌<◌, ◌^◌, ℕ, length, take}
+use Rattle.std.proofs.Common.{◌≡◌, ◌<◌, ℕ, length, take}
 use Rattle.polite_routes.specs.Routes.{trees_to}
 use Rattle.polite_routes.specs.Targets.{count_in}
 use Rattle.polite_routes.proofs.planting.count_all.Given as goal

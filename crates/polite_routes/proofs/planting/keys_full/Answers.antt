@@ -1,4 +1,4 @@
-use Rattle.std.proofs.Common.{length, arith, ◌∙◌}
+use Rattle.std.proofs.Common.{arith}
 use Rattle.polite_routes.proofs.InTurn.{full_is}
 use Rattle.polite_routes.proofs.planting.keys_full.Goals as goal
 

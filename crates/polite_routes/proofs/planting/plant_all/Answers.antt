@@ -1,13 +1,9 @@
-use Rattle.std.proofs.Common.{false, ◌≡◌, ◌<◌, ◌++◌, ◌∷◌, [], get_or, length, take, ap, arith, refl, sym, ◌∙◌, subst}
+use Rattle.std.proofs.Common.{[], length, take, ap, sym, ◌∙◌}
 use Rattle.std.proofs.lemmas.List.{length-replicate}
 use Rattle.tn_base.specs.Parts.{board_count}
-use Rattle.polite_routes.specs.declared.target.Pin.{Pin}
 use Rattle.polite_routes.specs.Full.{is_full}
-use Rattle.polite_routes.specs.Routes.{key_at, tables_after, tree_of}
-use Rattle.polite_routes.specs.Targets.{count_in, spots_for}
-use Rattle.polite_routes.specs.Tree.{Planted, tree}
+use Rattle.polite_routes.specs.Tree.{Planted}
 use Rattle.polite_routes.proofs.InTurn.{Next, bare_short, bare_tables, few_counts, full_end, item_is, item_there, laid_stop, narrow_spots, next_pin, none_counted, taken_few, tree_is}
-use Rattle.polite_routes.proofs.Marking.{no_pin}
 use Rattle.polite_routes.proofs.planting.plant_all.Goals as goal
 
 pub loop-pin-init : goal.loop-pin-init

@@ -1,6 +1,6 @@
-use Rattle.std.proofs.Common.{◌≡◌, ◌<◌, ◌/◌, ◌%◌, ◌∙◌, ap, get_or, length, refl, arith}
+use Rattle.std.proofs.Common.{◌%◌, ◌∙◌, ap, get_or, refl}
 use Rattle.tn_base.specs.Mask.{with_bit}
-use Rattle.polite_routes.proofs.Marking.{length_masks, low_tile, marked, masks_none, no_target}
+use Rattle.polite_routes.proofs.Marking.{marked, masks_none, no_target}
 use Rattle.polite_routes.proofs.spots.mark.Goals as goal
 
 pub loop-target-init : goal.loop-target-init

@@ -1,5 +1,5 @@
-use Rattle.std.proofs.Common.{◌≡◌, length, refl, sym, ◌∙◌, ap}
-use Rattle.polite_routes.specs.Targets.{count_in, masks_for, one_more}
+use Rattle.std.proofs.Common.{length, ◌∙◌, ap}
+use Rattle.polite_routes.specs.Targets.{count_in, one_more}
 use Rattle.polite_routes.proofs.Marking.{length_masks, mask_at, spots_are}
 use Rattle.polite_routes.proofs.spots.number.Goals as goal
 

@@ -1,4 +1,4 @@
-use Rattle.std.proofs.Common.{true, ◌≡◌, ◌≤◌, ◌<◌, ◌++◌, ◌-◌, drop, length, take}
+use Rattle.std.proofs.Common.{true, ◌≡◌, ◌<◌, ◌++◌, ◌-◌, drop, take}
 use Rattle.tn_keys.specs.Beat.{is_beat}
 use Rattle.polite_routes.specs.Pack.{filled, pack}
 use Rattle.polite_routes.proofs.draft.BeatList.fill.Given as goal

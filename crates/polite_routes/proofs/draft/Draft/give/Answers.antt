@@ -1,4 +1,4 @@
-use Rattle.std.proofs.Common.{arith, length, sym, ◌∙◌, ap, ◌<◌}
+use Rattle.std.proofs.Common.{arith}
 use Rattle.polite_routes.proofs.Fullness.{gives, kept_count, table_now}
 use Rattle.polite_routes.proofs.draft.Draft.give.Goals as goal
 
