@@ -1,0 +1,16 @@
+pub mod Each
+pub mod Filled
+pub mod Fullness
+pub mod Growing
+pub mod Grows
+pub mod Grid
+pub mod Leading
+pub mod Marking
+pub mod Marks
+pub mod Passing
+pub mod InTurn
+pub mod Ranges
+pub mod Records
+pub mod Routing
+pub mod Trees
+pub mod Walks
