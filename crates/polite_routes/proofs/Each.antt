@@ -12,7 +12,7 @@ use Rattle.tn_base.specs.Shape.{WithinLimits}
 use Rattle.tn_keys.specs.Copies.{each_below, only_if, tile_address}
 use Rattle.tn_sums.specs.Totals.{total, weigh}
 use Rattle.tn_sums.proofs.Laws.{total-plus, total-suc, total_blocks, total_grid, total_nothing, total_one, total_same, total_zero, weigh-append, weigh_is}
-use Rattle.polite_routes.specs.declared.target.InEdge.{InEdge}
+use Rattle.polite_switch.specs.declared.device.InEdge.{InEdge}
 use Rattle.polite_routes.specs.declared.target.Spot.{Spot}
 use Rattle.polite_routes.specs.declared.target.Target.{Target}
 use Rattle.polite_routes.specs.Hops.{Hop, hop}

@@ -3,7 +3,7 @@ use Rattle.std.specs.Prelude.{ℕ, ◌≡◌, ◌/◌, true, List}
 use Rattle.std.specs.List.{All, sum_by}
 use Rattle.tn_base.specs.declared.shape.ShapeNumbers.{ShapeNumbers}
 use Rattle.tn_base.specs.Address.{has_thread}
-use Rattle.polite_routes.specs.declared.target.InEdge.{InEdge}
+use Rattle.polite_switch.specs.declared.device.InEdge.{InEdge}
 use Rattle.polite_routes.specs.declared.target.Target.{Target}
 use Rattle.polite_routes.specs.Hops.{Hop}
 use Rattle.polite_routes.specs.Targets.{edges_to, reaches}

@@ -9,7 +9,7 @@ use Rattle.tn_base.specs.Address.{thread_at}
 use Rattle.tn_base.specs.Parts.{board_count}
 use Rattle.tn_base.specs.Shape.{thread_count}
 use Rattle.tn_keys.specs.Tables.{HasBoard, Table}
-use Rattle.polite_routes.specs.declared.target.InEdge.{InEdge}
+use Rattle.polite_switch.specs.declared.device.InEdge.{InEdge}
 use Rattle.polite_routes.specs.declared.planting.Planting.{Planting}
 use Rattle.polite_routes.specs.declared.target.Pin.{Pin}
 use Rattle.polite_routes.specs.declared.target.Spot.{Spot}

@@ -2,7 +2,7 @@
 use Rattle.std.specs.Prelude.{ℕ, ◌≡◌, ◌<◌, length, ◌+◌, ◌/◌, ◌%◌, ◌==◌, Bool, List, [], ◌∷◌, map, slice_index_or, if◌then◌else◌}
 use Rattle.std.specs.List.{All, filter, list_any, range_with_len}
 use Rattle.tn_base.specs.Mask.{with_bit}
-use Rattle.polite_routes.specs.declared.target.InEdge.{InEdge}
+use Rattle.polite_switch.specs.declared.device.InEdge.{InEdge}
 use Rattle.polite_routes.specs.declared.target.Target.{Target}
 use Rattle.polite_routes.specs.declared.target.Spot.{Spot}
 

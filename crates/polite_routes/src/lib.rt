@@ -1,7 +1,8 @@
-//! The routes of a graph: for each pin a tree of records through the boards, its key, and the in-edges of each thread.
+//! The routes of a graph: for each pin a tree of records through the boards, and the pin's key.
 //!
-//! What the tree of a pin is stands in `specs/Tree.antt`, what all trees are in `specs/Routes.antt`, and that what a key
-//! reaches is each edge once in `specs/Once.antt`. Read `routes` first.
+//! `specs/Tree.antt` defines the tree of a pin, `specs/Routes.antt` all trees and the in-edges of each thread, and
+//! `specs/Once.antt` says that a key reaches each edge of its pin once. Read `planting::plant_pins` first. No call makes the lists
+//! of in-edges yet, or takes the pins from a graph.
 #![tactic(auto)]
 
 mod draft;

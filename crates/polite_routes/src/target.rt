@@ -2,17 +2,10 @@
 
 ghost use Rattle.std.specs.Prelude.{◌≡◌, ◌++◌, ◌∷◌, [], ◌<◌, ◌*◌, IfOk, length};
 
+use polite_switch::device::InEdge;
 use std::alloc::{AllocError, Global};
 use std::marker::Model;
 use tn_base::ids::{Board, ThreadId};
-
-/// An edge that leads to a device: the device's place in its thread, the edge's value and its place in the graph.
-#[derive(Clone, Copy, PartialEq, Eq, Debug)]
-pub struct InEdge {
-    pub device: u32,
-    pub value: u32,
-    pub edge: u32,
-}
 
 /// Where an edge leads: a thread, and what the edge is there.
 #[derive(Clone, Copy, PartialEq, Eq, Debug)]
