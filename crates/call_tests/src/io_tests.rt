@@ -68,7 +68,7 @@ fn sources(rt: HostRuntime) -> Result<(), Fail> {
     for (fails, limit, texts) in &READS {
         let bytes = Vec::from_slice(alloc, b"abcdefghij".as_slice())?;
         let mut source = MemSource::of(bytes, 4, Vec::from_slice(alloc, *fails)?);
-        assert!(rt; reads(alloc, &mut source, *limit, *texts)?, "{}", texts.0);
+        assert!(rt; reads(alloc, &mut source, *limit, *texts)?);
     }
     let mut reader = StdSource::of(b"hello".as_slice());
     assert!(rt; reads(alloc, &mut reader, 5, ("hello", ""))?);
@@ -113,21 +113,17 @@ fn sinks(rt: HostRuntime) -> Result<(), Fail> {
     for (fails, room, text, all, written) in &WRITES {
         let mut sink = MemSink::of(alloc, 4, Vec::from_slice(alloc, *fails)?);
         sink.reserve(*room)?;
-        assert_eq!(rt; writes(&mut sink, *text), *all);
-        assert_eq!(rt; sink.written(), *written);
+        assert!(rt; writes(&mut sink, *text) == *all && sink.written() == *written);
     }
     let mut out = Vec::new(alloc);
     let mut sink = StdSink::of(&mut out);
     assert!(rt; writes(&mut sink, "hello"));
     drop(sink);
-    assert_eq!(rt; out.as_slice(), b"hello".as_slice());
+    assert!(rt; out.as_slice() == b"hello".as_slice());
     for takes in [false, true] {
         assert!(rt; !writes(&mut StdSink::of(Stuck { takes }), "hello"));
     }
-    assert_eq!(rt;
-        format!(in alloc; "{SinkFault}")?.as_str(),
-        "the sink failed"
-    );
+    assert!(rt; format!(in alloc; "{SinkFault}")?.as_str() == "the sink failed");
     Ok(())
 }
 
@@ -146,7 +142,7 @@ fn copies(alloc: Global, n: usize) -> Result<bool, Fail> {
 #[test]
 fn whole_inputs(rt: HostRuntime) -> Result<(), Fail> {
     for n in [0, 1, 4095, 4096, 4097, 100_000] {
-        assert!(rt; copies(rt.alloc(), n)?, "{n} bytes");
+        assert!(rt; copies(rt.alloc(), n)?);
     }
     Ok(())
 }

@@ -391,12 +391,7 @@ static STANDING: [Standing; 15] = [
 #[test]
 fn letters_in_their_places(rt: HostRuntime) -> Result<(), Fail> {
     for case in &STANDING {
-        assert!(rt;
-            stand(rt.alloc(), case)?,
-            "{} of {:?}",
-            case.made,
-            case.events
-        );
+        assert!(rt; stand(rt.alloc(), case)?);
     }
     Ok(())
 }
@@ -547,7 +542,7 @@ static SPELLED: [Spelled; 4] = [
 #[test]
 fn steps_of_runs(rt: HostRuntime) -> Result<(), Fail> {
     for (job, events, steps) in &SPELLED {
-        assert!(rt; spells(rt.alloc(), *job, *events, *steps)?, "{:?}", events);
+        assert!(rt; spells(rt.alloc(), *job, *events, *steps)?);
     }
     Ok(())
 }

@@ -398,9 +398,9 @@ static SCENARIOS: [Scenario; 6] = [
 fn events(rt: HostRuntime) -> Result<(), Fail> {
     for scenario in &SCENARIOS {
         let mut world = machine(rt.alloc(), scenario.job)?;
-        assert_eq!(rt; other_step(&mut world, scenario.steps)?, None);
-        assert_eq!(rt; other_end(&world, scenario.ends), None);
-        assert_eq!(rt; rest_outcome(&world), scenario.rest);
+        assert!(rt; other_step(&mut world, scenario.steps)?.is_none());
+        assert!(rt; other_end(&world, scenario.ends).is_none());
+        assert!(rt; rest_outcome(&world) == scenario.rest);
     }
     Ok(())
 }
@@ -459,7 +459,7 @@ static PLAYS: [(&[u8], &[Played]); 3] = [
 #[test]
 fn plays(rt: HostRuntime) -> Result<(), Fail> {
     for (job, limits) in &PLAYS {
-        assert_eq!(rt; other_play(rt.alloc(), *job, *limits)?, None);
+        assert!(rt; other_play(rt.alloc(), *job, *limits)?.is_none());
     }
     Ok(())
 }

@@ -54,7 +54,7 @@ const DIGITS: ShapeNumbers = ShapeNumbers {
 const PAIR: ShapeNumbers = ShapeNumbers { tiles_x: 2, ..ONE };
 
 /// Where a packet goes.
-#[derive(Clone, Copy, PartialEq, Eq, Debug)]
+#[derive(Clone, Copy)]
 enum To {
     Thread(u32),
     Host,
@@ -74,7 +74,7 @@ fn dest(to: To) -> Dest {
 }
 
 /// What holds of a machine. None stands where it has no such thread, tile or part.
-#[derive(Clone, Copy, PartialEq, Eq, Debug)]
+#[derive(Clone, Copy)]
 enum Fact {
     /// So many threads, threads of a tile, parts that a detector visits, and parts.
     Counts(u32, u32, u32, u32),
@@ -308,7 +308,7 @@ static FACTS: [(ShapeNumbers, &[Fact]); 5] = [
 #[test]
 fn facts(rt: HostRuntime) -> Result<(), Fail> {
     for (numbers, facts) in &FACTS {
-        assert_eq!(rt; other_fact(*numbers, *facts)?, None);
+        assert!(rt; other_fact(*numbers, *facts)?.is_none());
     }
     // No job has version 3: its first line is no header.
     let third = ShapeNumbers {
@@ -316,6 +316,6 @@ fn facts(rt: HostRuntime) -> Result<(), Fail> {
         boards_x: 0,
         ..ONE
     };
-    assert_eq!(rt; Shape::of(third).err(), Some(ShapeFault::Version));
+    assert!(rt; Shape::of(third).err() == Some(ShapeFault::Version));
     Ok(())
 }
