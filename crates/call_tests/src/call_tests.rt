@@ -286,8 +286,8 @@ static CASES: [Case; 28] = [
 #[test]
 fn calls(rt: HostRuntime) -> Result<(), Fail> {
     let mut kept = Kept::new(rt.alloc());
-    for case in &CASES {
-        assert!(rt; calls_so(&rt, rt.alloc(), case, &mut kept)?);
+    for (k, case) in CASES.iter().enumerate() {
+        assert!(rt; calls_so(&rt, rt.alloc(), case, &mut kept)?, "case {k}");
     }
     Ok(())
 }

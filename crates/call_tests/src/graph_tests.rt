@@ -82,7 +82,7 @@ static CASES: [(&'static [u8], Option<(u32, GraphKind)>); 20] = [
 
 #[test]
 fn first_fault_of_a_graph_is_at_its_line(rt: HostRuntime) {
-    for (text, fault) in CASES {
-        assert!(rt; fault_of(&rt, rt.alloc(), text) == fault);
+    for (k, (text, fault)) in CASES.iter().enumerate() {
+        assert!(rt; fault_of(&rt, rt.alloc(), *text) == *fault, "case {k}");
     }
 }

@@ -65,10 +65,10 @@ static READS: [(&[u32], usize, (&str, &str)); 4] = [
 #[test]
 fn sources(rt: HostRuntime) -> Result<(), Fail> {
     let alloc = rt.alloc();
-    for (fails, limit, texts) in &READS {
+    for (k, (fails, limit, texts)) in READS.iter().enumerate() {
         let bytes = Vec::from_slice(alloc, b"abcdefghij".as_slice())?;
         let mut source = MemSource::of(bytes, 4, Vec::from_slice(alloc, *fails)?);
-        assert!(rt; reads(alloc, &mut source, *limit, *texts)?);
+        assert!(rt; reads(alloc, &mut source, *limit, *texts)?, "case {k}");
     }
     let mut reader = StdSource::of(b"hello".as_slice());
     assert!(rt; reads(alloc, &mut reader, 5, ("hello", ""))?);
@@ -110,10 +110,13 @@ static WRITES: [(&[u32], usize, &str, bool, &[u8]); 4] = [
 #[test]
 fn sinks(rt: HostRuntime) -> Result<(), Fail> {
     let alloc = rt.alloc();
-    for (fails, room, text, all, written) in &WRITES {
+    for (k, (fails, room, text, all, written)) in WRITES.iter().enumerate() {
         let mut sink = MemSink::of(alloc, 4, Vec::from_slice(alloc, *fails)?);
         sink.reserve(*room)?;
-        assert!(rt; writes(&mut sink, *text) == *all && sink.written() == *written);
+        assert!(rt;
+            writes(&mut sink, *text) == *all && sink.written() == *written,
+            "case {k}"
+        );
     }
     let mut out = Vec::new(alloc);
     let mut sink = StdSink::of(&mut out);

@@ -390,8 +390,8 @@ static STANDING: [Standing; 15] = [
 
 #[test]
 fn letters_in_their_places(rt: HostRuntime) -> Result<(), Fail> {
-    for case in &STANDING {
-        assert!(rt; stand(rt.alloc(), case)?);
+    for (k, case) in STANDING.iter().enumerate() {
+        assert!(rt; stand(rt.alloc(), case)?, "case {k}");
     }
     Ok(())
 }
@@ -541,8 +541,8 @@ static SPELLED: [Spelled; 4] = [
 
 #[test]
 fn steps_of_runs(rt: HostRuntime) -> Result<(), Fail> {
-    for (job, events, steps) in &SPELLED {
-        assert!(rt; spells(rt.alloc(), *job, *events, *steps)?);
+    for (k, (job, events, steps)) in SPELLED.iter().enumerate() {
+        assert!(rt; spells(rt.alloc(), *job, *events, *steps)?, "case {k}");
     }
     Ok(())
 }

@@ -396,11 +396,14 @@ static SCENARIOS: [Scenario; 6] = [
 
 #[test]
 fn events(rt: HostRuntime) -> Result<(), Fail> {
-    for scenario in &SCENARIOS {
+    for (k, scenario) in SCENARIOS.iter().enumerate() {
         let mut world = machine(rt.alloc(), scenario.job)?;
-        assert!(rt; other_step(&mut world, scenario.steps)?.is_none());
-        assert!(rt; other_end(&world, scenario.ends).is_none());
-        assert!(rt; rest_outcome(&world) == scenario.rest);
+        assert!(rt;
+            other_step(&mut world, scenario.steps)?.is_none(),
+            "case {k}"
+        );
+        assert!(rt; other_end(&world, scenario.ends).is_none(), "case {k}");
+        assert!(rt; rest_outcome(&world) == scenario.rest, "case {k}");
     }
     Ok(())
 }
@@ -458,8 +461,11 @@ static PLAYS: [(&[u8], &[Played]); 3] = [
 
 #[test]
 fn plays(rt: HostRuntime) -> Result<(), Fail> {
-    for (job, limits) in &PLAYS {
-        assert!(rt; other_play(rt.alloc(), *job, *limits)?.is_none());
+    for (k, (job, limits)) in PLAYS.iter().enumerate() {
+        assert!(rt;
+            other_play(rt.alloc(), *job, *limits)?.is_none(),
+            "case {k}"
+        );
     }
     Ok(())
 }

@@ -306,9 +306,12 @@ const COMMANDS: [Case; 16] = [
 
 #[test]
 fn commands(rt: HostRuntime) -> Result<(), Fail> {
-    for (command, can_send, first, became) in &COMMANDS {
+    for (k, (command, can_send, first, became)) in COMMANDS.iter().enumerate() {
         let view = tile(*can_send, *first)?;
-        assert!(rt; commanded(rt.alloc(), *command, &view)? == *became);
+        assert!(rt;
+            commanded(rt.alloc(), *command, &view)? == *became,
+            "case {k}"
+        );
     }
     // A handler begins at its address with its registers.
     let mut regs = Regs::zero();
@@ -367,8 +370,11 @@ const REGISTERS: [(u16, bool, Became); 14] = [
 #[test]
 fn registers_outside_the_firmware(rt: HostRuntime) -> Result<(), Fail> {
     let view = tile(true, Some(3))?;
-    for (csr, writes, became) in &REGISTERS {
-        assert!(rt; used(rt.alloc(), *csr, *writes, &view)? == *became);
+    for (k, (csr, writes, became)) in REGISTERS.iter().enumerate() {
+        assert!(rt;
+            used(rt.alloc(), *csr, *writes, &view)? == *became,
+            "case {k}"
+        );
     }
     Ok(())
 }

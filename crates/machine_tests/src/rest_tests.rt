@@ -450,8 +450,8 @@ static CASES: [Case; 11] = [
 
 #[test]
 fn parts_at_rest(rt: HostRuntime) -> Result<(), Fail> {
-    for case in &CASES {
-        assert!(rt; other_act(rt.alloc(), case)?.is_none());
+    for (k, case) in CASES.iter().enumerate() {
+        assert!(rt; other_act(rt.alloc(), case)?.is_none(), "case {k}");
     }
     Ok(())
 }

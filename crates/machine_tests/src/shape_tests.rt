@@ -307,8 +307,8 @@ static FACTS: [(ShapeNumbers, &[Fact]); 5] = [
 
 #[test]
 fn facts(rt: HostRuntime) -> Result<(), Fail> {
-    for (numbers, facts) in &FACTS {
-        assert!(rt; other_fact(*numbers, *facts)?.is_none());
+    for (k, (numbers, facts)) in FACTS.iter().enumerate() {
+        assert!(rt; other_fact(*numbers, *facts)?.is_none(), "case {k}");
     }
     // No job has version 3: its first line is no header.
     let third = ShapeNumbers {
