@@ -1,7 +1,7 @@
 #!/usr/bin/env python3
 """Tries the must-fail edits of edits/CRATE, which the gate leaves out: the prover must refuse each.
 
-Name the crates to try, or none for all. The gate tries the one to three edits of a crate that tell most, in crates/CRATE/must-fail;
+Name the crates to try, or none for all. The gate tries the one or two edits of a crate that tell most, in crates/CRATE/must-fail;
 the others are tried here, when a contract of their crate changes. This takes some 15 seconds an edit.
 """
 
