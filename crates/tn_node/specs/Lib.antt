@@ -1,0 +1,4 @@
+pub mod Deed
+pub mod NodeRows
+pub mod PortRows
+pub mod SamePacket
