@@ -13,9 +13,12 @@ use Rattle.tn_keys.specs.Key.{key_count, key_first}
 use Rattle.tn_keys.specs.Tables.{HasBoard, Table, is_bad_key}
 use Rattle.tn_router.specs.declared.moves.Move.{Move}
 use Rattle.tn_router.specs.declared.work.Work.{Work}
-use Rattle.tn_router.specs.Places.{buffer_at, has_way, work_at}
+use Rattle.tn_node.specs.NodeRows.{fresh_node}
+use Rattle.tn_node.specs.PortRows.{at, no_values}
+use Rattle.tn_router.specs.Places.{has_side, has_way}
 use Rattle.tn_router.specs.Rest.{rest_of}
-use Rattle.tn_router.specs.RouterView.{RouterView}
+use Rattle.tn_router.specs.RouterView.{RouterPlan, RouterView}
+use Rattle.tn_router.specs.declared.state.RouterState.{RouterState}
 
 -- the two numbers name a record of one of the key's beats
 abbrev pub is_record_of : Table → ℕ → ℕ → ℕ → Bool
@@ -65,26 +68,23 @@ leads_on port.Here = false
 abbrev pub FitsWay : ShapeNumbers → Board → Port → Packet → Type 0
 FitsWay n b way p = IsTrue (has_packet n p) × IsTrue (not (is_keyed p.dest) || leads_on way) × IsTrue (has_way n b way)
 
+-- what came from each side fits there, from a side from which a link leads here; what waits for each way out fits the way
+pub record IsFit (plan : RouterPlan) (s : RouterState) : Type 0 where
+  pub works : (side : Port) → MatchOption (at side s.inputs) ⊤ (λ w. FitsWork plan.shape plan.beats w × IsTrue (has_side plan.shape plan.board side))
+  pub waits : (way : Port) → MatchOption (at way s.node.out) ⊤ (FitsWay plan.shape plan.board way)
+
 pub record WellShaped (v : RouterView) : Type 0 where
-  pub board : HasBoard v.shape v.board
-  pub works : (side : Port) → MatchOption (work_at side v.process) ⊤ (FitsWork v.shape v.beats)
-  pub waits : (way : Port) → MatchOption (buffer_at way v.out) ⊤ (FitsWay v.shape v.board way)
+  pub board : HasBoard v.plan.shape v.plan.board
+  pub fits : IsFit v.plan v.now
 
 -- a move leaves in process what fits there, and sends on what fits its way
-pub record MoveFits (v : RouterView) (m : Move) : Type 0 where
-  pub work : MatchOption m.work ⊤ (FitsWork v.shape v.beats)
-  pub sent : MatchOption m.sent ⊤ (λ s. FitsWay v.shape v.board s.way s.packet)
+pub record MoveFits (plan : RouterPlan) (m : Move) : Type 0 where
+  pub work : MatchOption m.work ⊤ (FitsWork plan.shape plan.beats)
+  pub sent : MatchOption m.sent ⊤ (λ s. FitsWay plan.shape plan.board s.way s.packet)
 
 -- a router at its start
+abbrev pub fresh_state : RouterState
+fresh_state = record { inputs = no_values; node = fresh_node; ended = None }
+
 abbrev pub fresh_router : ShapeNumbers → Board → Table → RouterView
-fresh_router n b beats = record {
-  shape = n;
-  board = b;
-  beats = beats;
-  process = record { up = None; east = None; west = None; south = None; north = None; host = None };
-  out = record { east = None; west = None; south = None; north = None; down = None; host = None };
-  counter = pos 0;
-  black = false;
-  held = false;
-  ended = None;
-}
+fresh_router n b beats = record { plan = record { shape = n; board = b; beats = beats }; now = fresh_state }

@@ -1,25 +1,25 @@
-use Rattle.std.specs.Prelude.{ℕ, ℤ, Bool, Option}
+use Rattle.std.specs.Prelude.{Option, option_map}
 use Rattle.tn_base.specs.declared.ids.Board.{Board}
 use Rattle.tn_base.specs.declared.shape.ShapeNumbers.{ShapeNumbers}
 use Rattle.tn_keys.specs.Tables.{Table}
-use Rattle.tn_router.specs.declared.buffers.Buffers.{Buffers}
-use Rattle.tn_router.specs.declared.work.Process.{Process}
+use Rattle.tn_router.specs.declared.state.RouterState.{RouterState}
 
-pub record RouterView : Type 0 where
+-- what no event changes
+pub record RouterPlan : Type 0 where
   -- the machine, and the router's board in it
   pub shape : ShapeNumbers
   pub board : Board
   -- the beats of the board's table
   pub beats : Table
-  -- the packets that came by links, one for each link that leads here
-  pub process : Process
-  -- the packets that go on to other parts, one for each way out
-  pub out : Buffers
-  -- packets put on links less packets taken from links
-  pub counter : ℤ
-  -- the router took a packet from a link since it reported last
-  pub black : Bool
-  -- the router puts no packet on a link
-  pub held : Bool
-  -- the key of the first Route that found a bad key
-  pub ended : Option ℕ
+
+pub record RouterView : Type 0 where
+  pub plan : RouterPlan
+  -- the packets in process by the side they came from, those that wait for a way out, and the first bad key
+  pub now : RouterState
+
+-- a router in another state, and in another state if there is such a state
+abbrev pub with_now : RouterView → RouterState → RouterView
+with_now v s = record v { now = s }
+
+abbrev pub now_by : RouterView → Option RouterState → Option RouterView
+now_by v o = option_map (with_now v) o
