@@ -7,6 +7,7 @@ use Rattle.tn_base.specs.declared.effect.Effect.TheVariants as effect
 use Rattle.tn_base.specs.declared.event.Trap.{Trap}
 use Rattle.tn_base.specs.declared.event.Trap.TheVariants as trap
 use Rattle.tn_base.specs.declared.ids.ThreadId.{ThreadId}
+use Rattle.tn_base.specs.declared.message.Dest.{Dest}
 use Rattle.tn_base.specs.declared.message.Packet.{Packet}
 use Rattle.tn_base.specs.declared.op.Op.{Op}
 use Rattle.tn_base.specs.declared.op.Op.TheVariants as op
@@ -17,7 +18,7 @@ use Rattle.tn_thread.specs.declared.state.ThreadState.TheVariants as state
 use Rattle.tn_thread.specs.declared.thread.Thread.{Thread}
 use Rattle.tn_thread.specs.Sight.{Sight}
 use Rattle.tn_thread.specs.Step.{Stepped, runnable, turned}
-use Rattle.tn_tile.specs.TileView.{TileView}
+use Rattle.tn_tile.specs.TileView.{TilePlan, TileState}
 
 -- a thread with what its instruction writes to the registers, and the instruction's effect
 pub record Fetched : Type 0 where
@@ -69,54 +70,58 @@ no_thread = record {
 }
 
 -- the thread at a place of the tile, and the packet that it sent and that is not delivered yet
-abbrev pub thread_at : TileView → ℕ → Thread
-thread_at v k = slice_index_or v.threads k no_thread
+abbrev pub thread_at : TileState → ℕ → Thread
+thread_at s k = slice_index_or s.threads k no_thread
 
-abbrev pub pending_at : TileView → ℕ → Option Packet
-pending_at v k = slice_index_or v.pending k None
+abbrev pub pending_at : TileState → ℕ → Option Packet
+pending_at s k = slice_index_or s.pending k None
 
 -- what the thread at a place sees of its tile
-abbrev pub sight_at : TileView → ℕ → Sight
-sight_at v k = record {
-  can_send = is_none (pending_at v k);
-  first = first_of (queue_at v.pool k);
-  key = key_for v.pool k;
-  held = held_by v.pool k;
+abbrev pub sight_at : TileState → ℕ → Sight
+sight_at s k = record {
+  can_send = is_none (pending_at s k);
+  first = first_of (queue_at s.pool k);
+  key = key_for s.pool k;
+  held = held_by s.pool k;
 }
 
-abbrev pub step_at_place : ℕ → TileView → Stepped
-step_at_place k v = next_step v.code (sight_at v k) (thread_at v k)
+abbrev pub step_at_place : List (Option Instr) → ℕ → TileState → Stepped
+step_at_place code k s = next_step code (sight_at s k) (thread_at s k)
 
 -- the first thread that trapped stays noted
 abbrev pub noted : ThreadId → Trap → Option (ThreadId × Trap) → Option (ThreadId × Trap)
 noted id why None = Some (id, why)
 noted id why (Some first) = Some first
 
--- the tile after what the thread at a place, which was this one, asked of it. A send becomes a packet with the thread's
--- send number; a thread that ends gives up what it holds, and the letters of its queue are dropped
-abbrev pub acted : ℕ → Thread → Op → TileView → TileView
-acted k t op.None v = v
-acted k t (op.Send to bytes) v = record v { pending = slice_set v.pending k (Some (record { origin = t.id.0; number = t.sends; dest = to; bytes = bytes })) }
-acted k t op.Hand v = record v { pool = taken k v.pool }
-acted k t (op.Free slot) v = record v { pool = freed k slot v.pool }
-acted k t (op.Idle vote) v = v
-acted k t (op.Kill value) v = record v { pool = left k v.pool; dropped = v.dropped + length (queue_at v.pool k) }
-acted k t (op.Trap why) v = record v { ended = noted t.id why v.ended }
+-- the packet that a send of a thread becomes: it bears the thread's send number
+abbrev pub packet_of : Thread → Dest → List ℕ → Packet
+packet_of t to bytes = record { origin = t.id.0; number = t.sends; dest = to; bytes = bytes }
 
-abbrev pub with_thread : ℕ → Thread → TileView → TileView
-with_thread k t v = record v { threads = slice_set v.threads k t }
+-- the tile after what the thread at a place, which was this one, asked of it. A thread that ends gives up what it holds,
+-- and the letters of its queue are dropped
+abbrev pub acted : ℕ → Thread → Op → TileState → TileState
+acted k t op.None s = s
+acted k t (op.Send to bytes) s = record s { pending = slice_set s.pending k (Some (packet_of t to bytes)) }
+acted k t op.Hand s = record s { pool = taken k s.pool }
+acted k t (op.Free slot) s = record s { pool = freed k slot s.pool }
+acted k t (op.Idle vote) s = s
+acted k t (op.Kill value) s = record s { pool = left k s.pool; dropped = s.dropped + length (queue_at s.pool k) }
+acted k t (op.Trap why) s = record s { ended = noted t.id why s.ended }
+
+abbrev pub with_thread : ℕ → Thread → TileState → TileState
+with_thread k t s = record s { threads = slice_set s.threads k t }
 
 -- the tile after one step of the thread at a place
-abbrev pub stepped : ℕ → TileView → TileView
-stepped k v =
-    let s = step_at_place k v in
-    acted k (thread_at v k) s.op (with_thread k s.thread v)
+abbrev pub stepped : List (Option Instr) → ℕ → TileState → TileState
+stepped code k s =
+    let made = step_at_place code k s in
+    acted k (thread_at s k) made.op (with_thread k made.thread s)
 
 -- the thread at a place can make a step: it is runnable and has steps left
-abbrev pub can_step : ℕ → TileView → Bool
-can_step k v = runnable (sight_at v k) (thread_at v k).state && nat_lt (thread_at v k).steps v.shape.fuel
+abbrev pub can_step : ℕ → ℕ → TileState → Bool
+can_step fuel k s = runnable (sight_at s k) (thread_at s k).state && nat_lt (thread_at s k).steps fuel
 
--- the tile after this many steps of the thread at a place, where it can make them all
-unfoldable pub steps_of : ℕ → ℕ → TileView → Option TileView
-steps_of k zero v = Some v
-steps_of k (suc n) v = if can_step k v then steps_of k n (stepped k v) else None
+-- the tile after this many steps of the thread at a place, if the thread can make them all
+unfoldable pub steps_of : TilePlan → ℕ → ℕ → TileState → Option TileState
+steps_of plan k zero s = Some s
+steps_of plan k (suc n) s = if can_step plan.shape.fuel k s then steps_of plan k n (stepped plan.code k s) else None

@@ -3,9 +3,9 @@ use Rattle.std.specs.Prelude.{Bool, true, false, not, ◌&&◌, List, [], ◌∷
 use Rattle.std.specs.List.{list_all, list_any}
 use Rattle.tn_thread.specs.declared.state.ThreadState.{ThreadState}
 use Rattle.tn_thread.specs.declared.state.ThreadState.TheVariants as state
-use Rattle.tn_tile.specs.declared.buffers.Buffers.{Buffers}
+use Rattle.tn_node.specs.PortRows.{all_empty}
 use Rattle.tn_tile.specs.Receivers.{is_dead}
-use Rattle.tn_tile.specs.TileView.{TileView}
+use Rattle.tn_tile.specs.TileView.{TileState}
 
 -- a thread does nothing by itself: it is idle or ended
 abbrev pub does_nothing : ThreadState → Bool
@@ -20,21 +20,17 @@ abbrev pub is_nil : {X : Type 0} → List X → Bool
 is_nil [] = true
 is_nil (x ∷ xs) = false
 
--- no packet waits for a way out
-abbrev pub none_waits : Buffers → Bool
-none_waits b = is_none b.east && is_none b.west && is_none b.south && is_none b.north && is_none b.up
-
 -- all threads are idle or ended, all queues are empty, and no packet is pending or goes on
-abbrev pub is_still : TileView → Bool
-is_still v =
-    list_all (λ t. does_nothing t.state) v.threads
-    && list_all is_nil v.pool.queues
-    && list_all is_none v.pending
-    && none_waits v.transit
+abbrev pub is_still : TileState → Bool
+is_still s =
+    list_all (λ t. does_nothing t.state) s.threads
+    && list_all is_nil s.pool.queues
+    && list_all is_none s.pending
+    && all_empty s.node.out
 
 -- a thread has not ended
-abbrev pub has_live : TileView → Bool
-has_live v = list_any (λ t. not (is_dead t.state)) v.threads
+abbrev pub has_live : TileState → Bool
+has_live s = list_any (λ t. not (is_dead t.state)) s.threads
 
 -- a thread that has not ended votes for the end
 abbrev pub votes_for : ThreadState → Bool
@@ -46,5 +42,5 @@ votes_for (state.Dead value) = true
 votes_for (state.Trapped why) = false
 
 -- all threads that have not ended vote for the end
-abbrev pub all_vote : TileView → Bool
-all_vote v = list_all (λ t. votes_for t.state) v.threads
+abbrev pub all_vote : TileState → Bool
+all_vote s = list_all (λ t. votes_for t.state) s.threads

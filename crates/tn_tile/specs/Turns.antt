@@ -6,18 +6,18 @@ use Rattle.tn_tile.specs.declared.step.Turned.{Turned}
 use Rattle.tn_tile.specs.declared.step.Turned.TheVariants as turned
 use Rattle.tn_tile.specs.Rows.{turn_row}
 use Rattle.tn_tile.specs.Step.{can_step, steps_of}
-use Rattle.tn_tile.specs.TileView.{TileView}
+use Rattle.tn_tile.specs.TileView.{TilePlan, TileState, TileView, now_by}
 
--- a turn is the longest one; and where there is none, nothing changes
+-- a turn is the longest turn; if no turn is possible, nothing changes
 abbrev pub TurnIs : Turned → ℕ → TileView → TileView → Type 0
-TurnIs (turned.Moved n) a old new = (turn_row a n old ≡ Some new) × ((m : ℕ) → n < m → turn_row a m old ≡ None)
-TurnIs turned.Nothing a old new = (new ≡ old) × ((m : ℕ) → turn_row a m old ≡ None)
+TurnIs (turned.Moved n) a old new = (now_by old (turn_row old.plan a n old.now) ≡ Some new) × ((m : ℕ) → n < m → turn_row old.plan a m old.now ≡ None)
+TurnIs turned.Nothing a old new = (new ≡ old) × ((m : ℕ) → turn_row old.plan a m old.now ≡ None)
 
 -- as many of `most` steps of the thread at a place as it can make
-pub record StepsUpTo (k most made : ℕ) (old new : TileView) : Type 0 where
-  pub steps : steps_of k made old ≡ Some new
+pub record StepsUpTo (plan : TilePlan) (k most made : ℕ) (old new : TileState) : Type 0 where
+  pub steps : steps_of plan k made old ≡ Some new
   pub few : made ≤ most
-  pub stops : made < most → can_step k new ≡ false
+  pub stops : made < most → can_step plan.shape.fuel k new ≡ false
 
 -- a call did something
 abbrev pub moved : Did → Bool
