@@ -35,7 +35,7 @@ abbrev pub ended_with : ℕ → ThreadId → Thread → Option Outcome
 ended_with fuel t thread = ended_by t thread.state (thread.steps == fuel)
 
 abbrev pub ended_on : ThreadId → PartView → Option Outcome
-ended_on t (TileV v) = if is_here t.0 v then ended_with v.shape.fuel t (thread_at v (place_in_tile v.shape t.0)) else None
+ended_on t (TileV v) = if is_here v.plan t.0 then ended_with v.plan.shape.fuel t (thread_at v.now (place_in_tile v.plan.shape t.0)) else None
 ended_on t (RouterV v) = None
 ended_on t (LinkV v) = None
 ended_on t AbsentV = None
@@ -43,7 +43,7 @@ ended_on t AbsentV = None
 -- how a run ends with a routing on a part that is now this one: its router found a bad key
 abbrev pub bad_key_on : PartView → Option Outcome
 bad_key_on (TileV v) = None
-bad_key_on (RouterV v) = option_map outcome.BadKey v.ended
+bad_key_on (RouterV v) = option_map outcome.BadKey v.now.ended
 bad_key_on (LinkV v) = None
 bad_key_on AbsentV = None
 
@@ -65,8 +65,8 @@ final_after (Some e) w = final_of e w
 
 -- all threads of a part ended, and no message stands there
 abbrev pub is_over : PartView → Bool
-is_over (TileV v) = is_still v && not (has_live v)
-is_over (RouterV v) = router_rests v
+is_over (TileV v) = is_still v.now && not (has_live v.now)
+is_over (RouterV v) = router_rests v.now
 is_over (LinkV v) = is_nil v.packets
 is_over AbsentV = true
 

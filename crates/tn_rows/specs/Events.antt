@@ -1,5 +1,5 @@
--- What each event makes of a machine, where it is enabled. Each part has a row of its own, by what it is and then by the
--- event; an event on two parts is a row of each with the same crossing.
+-- What each event makes of a machine, if the event is enabled. A part does a deed of its own, which `deed_of` finds from the event and
+-- what crosses; an event on two parts is a deed of each with the same crossing.
 use Rattle.std.specs.Prelude.{ℕ, ◌≡◌, ◌<◌, ◌++◌, ◌∷◌, [], ◌==◌, ◌&&◌, Bool, true, false, List, length, map, Option, Some, None, option_and_then, option_map, slice_get, slice_index_or, slice_set, if◌then◌else◌}
 use Rattle.tn_base.specs.declared.event.Event.{Event}
 use Rattle.tn_base.specs.declared.event.Event.TheVariants as event
@@ -10,33 +10,46 @@ use Rattle.tn_base.specs.declared.shape.ShapeNumbers.{ShapeNumbers}
 use Rattle.tn_base.specs.Parts.{kind_of, part_count}
 use Rattle.tn_link.specs.LinkRows.{front_of, put_in, take_from}
 use Rattle.tn_link.specs.LinkView.{LinkView}
+use Rattle.tn_node.specs.Deed.{Deed}
+use Rattle.tn_node.specs.Deed as deed
+use Rattle.tn_node.specs.NodeRows.{offered}
+use Rattle.tn_node.specs.SamePacket.{is_packet}
 use Rattle.tn_rows.specs.PartView.{PartView, TileV, RouterV, LinkV, AbsentV}
 use Rattle.tn_rows.specs.Places.{Places, Nowhere, One, Two, link_side, link_way, places}
-use Rattle.tn_rows.specs.SamePacket.{is_packet}
 use Rattle.tn_rows.specs.WorldView.{WorldView}
-use Rattle.tn_router.specs.RouterView.{RouterView}
-use Rattle.tn_router.specs.Rows.{accept_row as router_accepts, depart_row as router_departs, offered as router_offers, route_row}
+use Rattle.tn_router.specs.RouterView.{RouterPlan, RouterView, now_by as router_now_by}
+use Rattle.tn_router.specs.declared.state.RouterState.{RouterState}
+use Rattle.tn_router.specs.Rows.{router_deed}
 use Rattle.tn_stamp.specs.declared.entry.Crossing.{Crossing}
 use Rattle.tn_stamp.specs.declared.entry.Crossing.TheVariants as crossing
 use Rattle.tn_stamp.specs.declared.entry.Entry.{Entry}
-use Rattle.tn_tile.specs.Rows.{accept_row, deliver_row, depart_row, offered, turn_row}
-use Rattle.tn_tile.specs.TileView.{TileView}
+use Rattle.tn_tile.specs.Rows.{tile_deed}
+use Rattle.tn_tile.specs.TileView.{TilePlan, TileState, TileView, now_by}
 
--- a tile after its side of an event with this crossing. It gives the packet that waits for the link, and takes any
+-- the deed of a tile or router in an event with this crossing: here alone a part's ports are found from the number of a link
+abbrev pub deed_of : ShapeNumbers → Event → Crossing → Option Deed
+deed_of n (event.Turn t k) crossing.None = Some (deed.Turn t k)
+deed_of n (event.Deliver t) crossing.None = Some (deed.Deliver t)
+deed_of n (event.Depart p l) (crossing.Packet k) = Some (deed.Give (link_way n l.0) k)
+deed_of n (event.Arrive l p) (crossing.Packet k) = Some (deed.Take (link_side n l.0) k)
+deed_of n (event.Route p) crossing.None = Some deed.Route
+deed_of n e c = None
+
+-- a tile's state after a deed, if there is a deed and the tile can do it; and a router's
+abbrev pub tile_did : TilePlan → TileState → Option Deed → Option TileState
+tile_did plan s None = None
+tile_did plan s (Some d) = tile_deed plan d s
+
+abbrev pub router_did : RouterPlan → RouterState → Option Deed → Option RouterState
+router_did plan s None = None
+router_did plan s (Some d) = router_deed plan d s
+
+-- a tile after its side of an event, and a router. No event changes a plan
 abbrev pub tile_row : Event → Crossing → TileView → Option TileView
-tile_row (event.Turn t n) crossing.None v = turn_row t.0 n v
-tile_row (event.Deliver t) crossing.None v = deliver_row t.0 v
-tile_row (event.Depart p l) (crossing.Packet k) v = if is_packet k (offered (link_way v.shape l.0) v) then depart_row (link_way v.shape l.0) v else None
-tile_row (event.Arrive l p) (crossing.Packet k) v = accept_row k v
-tile_row e c v = None
+tile_row e c v = now_by v (tile_did v.plan v.now (deed_of v.plan.shape e c))
 
--- a router after its side: it routes by itself, gives the packet that waits for the link, and takes any into the place in
--- process of the side from which the link leads here
 abbrev pub router_row : Event → Crossing → RouterView → Option RouterView
-router_row (event.Route p) crossing.None v = route_row v
-router_row (event.Depart p l) (crossing.Packet k) v = if is_packet k (router_offers (link_way v.shape l.0) v) then router_departs (link_way v.shape l.0) v else None
-router_row (event.Arrive l p) (crossing.Packet k) v = router_accepts (link_side v.shape l.0) k v
-router_row e c v = None
+router_row e c v = router_now_by v (router_did v.plan v.now (deed_of v.plan.shape e c))
 
 -- a link after its side. It takes any packet where there is room, and gives the first one
 abbrev pub link_row : Event → Crossing → LinkView → Option LinkView
@@ -58,8 +71,8 @@ replay (entry ∷ entries) part = option_and_then (replay entries) (after entry.
 
 -- the packet that a part gives to link l
 abbrev pub given_to : ℕ → PartView → Option Packet
-given_to l (TileV v) = offered (link_way v.shape l) v
-given_to l (RouterV v) = router_offers (link_way v.shape l) v
+given_to l (TileV v) = offered (link_way v.plan.shape l) v.now.node
+given_to l (RouterV v) = offered (link_way v.plan.shape l) v.now.node
 given_to l (LinkV v) = None
 given_to l AbsentV = None
 
@@ -121,12 +134,12 @@ Rests w = (e : Event) → happened e w ≡ None
 
 -- a part is what the shape names at its place
 abbrev pub FitsKind : ShapeNumbers → Kind → PartView → Type 0
-FitsKind n (kind.Tile tile) (TileV v) = (v.shape ≡ n) × (v.tile ≡ tile.0)
+FitsKind n (kind.Tile tile) (TileV v) = (v.plan.shape ≡ n) × (v.plan.tile ≡ tile.0)
 FitsKind n (kind.Tile tile) (RouterV v) = ⊥
 FitsKind n (kind.Tile tile) (LinkV v) = ⊥
 FitsKind n (kind.Tile tile) AbsentV = ⊥
 FitsKind n (kind.Router board) (TileV v) = ⊥
-FitsKind n (kind.Router board) (RouterV v) = (v.shape ≡ n) × (v.board ≡ board)
+FitsKind n (kind.Router board) (RouterV v) = (v.plan.shape ≡ n) × (v.plan.board ≡ board)
 FitsKind n (kind.Router board) (LinkV v) = ⊥
 FitsKind n (kind.Router board) AbsentV = ⊥
 FitsKind n (kind.Link from onto) (TileV v) = ⊥

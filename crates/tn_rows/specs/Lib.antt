@@ -4,5 +4,4 @@ pub mod Listed
 pub mod PartView
 pub mod Places
 pub mod Runs
-pub mod SamePacket
 pub mod WorldView
