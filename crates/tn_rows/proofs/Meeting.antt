@@ -11,45 +11,16 @@ use Rattle.tn_link.specs.LinkRows.{first_in, front_of, put_in, rest_in, take_fro
 use Rattle.tn_link.specs.LinkView.{LinkView}
 use Rattle.tn_stamp.specs.declared.entry.Crossing.{Crossing}
 use Rattle.tn_stamp.specs.declared.entry.Crossing.TheVariants as crossing
-use Rattle.tn_tile.specs.Rows.{accept_row, depart_row, departed_with, offered}
-use Rattle.tn_tile.specs.TileView.{TileView}
-use Rattle.tn_router.specs.RouterView.{RouterView}
-use Rattle.tn_router.specs.Rows.{accept_row as router_accepts, depart_row as router_departs, departed_with as router_departed_with, offered as router_offers}
+use Rattle.tn_node.specs.NodeRows.{departed_with, offered}
+use Rattle.tn_node.proofs.Given.{given, gives}
+use Rattle.tn_tile.specs.Rows.{accept_row, depart_row, with_node}
+use Rattle.tn_tile.specs.TileView.{TileState, TileView, now_by}
+use Rattle.tn_router.specs.declared.state.RouterState.{RouterState}
+use Rattle.tn_router.specs.RouterView.{RouterView, now_by as router_now_by}
+use Rattle.tn_router.specs.Rows.{accept_row as router_accepts, depart_row as router_departs, with_node as router_with_node}
 use Rattle.tn_rows.specs.Events.{Met, after, crossing_of, given_to, meets, met_by, met_with}
 use Rattle.tn_rows.specs.PartView.{PartView, TileV, RouterV, LinkV, AbsentV}
 use Rattle.tn_rows.specs.Places.{link_side, link_way}
-use Rattle.tn_rows.specs.SamePacket.{is_packet, same_bytes, same_dest, same_packet}
-
--- ---- a packet is the same as itself
-
-same_number : (n : ℕ) → (n == n) ≡ true
-same_number n = eq-eqb n n refl
-
-both : (a b : Bool) → a ≡ true → b ≡ true → (a && b) ≡ true
-both true b e f = f
-both false b e f = e
-
-bytes_itself : (xs : List ℕ) → same_bytes xs xs ≡ true
-unfolding same_bytes
-bytes_itself [] = refl
-bytes_itself (x ∷ xs) = both (x == x) (same_bytes xs xs) (same_number x) (bytes_itself xs)
-
-dest_itself : (d : Dest) → same_dest d d ≡ true
-dest_itself (dest.Thread t) = same_number t.0
-dest_itself dest.Host = refl
-dest_itself (dest.Mask tile mask) = both (tile.0 == tile.0) (mask == mask) (same_number tile.0) (same_number mask)
-dest_itself (dest.Key key) = same_number key
-
-pub packet_itself : (k : Packet) → same_packet k k ≡ true
-packet_itself k =
-    both (k.origin == k.origin && k.number == k.number && same_dest k.dest k.dest) (same_bytes k.bytes k.bytes)
-    (both (k.origin == k.origin && k.number == k.number) (same_dest k.dest k.dest)
-    (both (k.origin == k.origin) (k.number == k.number) (same_number k.origin) (same_number k.number))
-    (dest_itself k.dest)) (bytes_itself k.bytes)
-
--- the giver's row, where it gives the packet that crosses
-pub gives : {V : Type 0} (o : Option Packet) (k : Packet) (row : Option V) → o ≡ Some k → cond (is_packet k o) row None ≡ row
-gives o k row e = ap (λ (x : Option Packet). cond (is_packet k x) row None) e ∙ ap (λ b. cond b row None) (packet_itself k)
 
 -- ---- rows of both parts
 
@@ -134,37 +105,45 @@ can_depart_by p l low x row (Some k) e some none =
 
 -- ---- of a tile
 
-tile_row_is : (p l : PartId) (v : TileView) (k : Packet) → offered (link_way v.shape l.0) v ≡ Some k → after (event.Depart p l) (crossing.Packet k) (TileV v) ≡ option_map TileV (depart_row (link_way v.shape l.0) v)
-tile_row_is p l v k e = ap (λ o. option_map TileV o) (gives (offered (link_way v.shape l.0) v) k (depart_row (link_way v.shape l.0) v) e)
+tile_row_is : (p l : PartId) (v : TileView) (k : Packet) → offered (link_way v.plan.shape l.0) v.now.node ≡ Some k → after (event.Depart p l) (crossing.Packet k) (TileV v) ≡ option_map TileV (now_by v (depart_row (link_way v.plan.shape l.0) v.now))
+tile_row_is p l v k e = ap (λ o. option_map TileV (now_by v (option_map (with_node v.now) o))) (given (link_way v.plan.shape l.0) k v.now.node e)
 
 -- it happens
-pub departed : (p l : PartId) (v w : TileView) (x y : LinkView) (k : Packet) → offered (link_way v.shape l.0) v ≡ Some k → depart_row (link_way v.shape l.0) v ≡ Some w → put_in k x ≡ Some y →
+pub departed : (p l : PartId) (v w : TileView) (x y : LinkView) (k : Packet) → offered (link_way v.plan.shape l.0) v.now.node ≡ Some k → now_by v (depart_row (link_way v.plan.shape l.0) v.now) ≡ Some w → put_in k x ≡ Some y →
     meets (event.Depart p l) (TileV v) (LinkV x) ≡ Some (record { low = TileV w; high = LinkV y })
 departed p l v w x y k e row put = departs p l (TileV v) (TileV w) x y k e (tile_row_is p l v k e ∙ ap (λ o. option_map TileV o) row) put
 
--- and it can, where the tile can give its packet and the link has room
+some_now : (v : TileView) (o : Option TileState) → is_some (option_map TileV (now_by v o)) ≡ is_some o
+some_now v None = refl
+some_now v (Some s) = refl
+
+-- it can happen if the tile can give its packet and the link has room
 pub can_depart : (p l : PartId) (v : TileView) (x : LinkView) →
-    is_some (meets (event.Depart p l) (TileV v) (LinkV x)) ≡ (is_some (depart_row (link_way v.shape l.0) v) && ltb (length x.packets) x.capacity)
+    is_some (meets (event.Depart p l) (TileV v) (LinkV x)) ≡ (is_some (depart_row (link_way v.plan.shape l.0) v.now) && ltb (length x.packets) x.capacity)
 can_depart p l v x =
-    can_depart_by p l (TileV v) x (is_some (depart_row (link_way v.shape l.0) v)) (offered (link_way v.shape l.0) v) refl
-    (λ k e. ap (λ (o : Option PartView). is_some o) (tile_row_is p l v k e) ∙ some_mapped TileV (depart_row (link_way v.shape l.0) v))
-    (λ e. ap (λ (o : Option Packet). is_some (departed_with o (link_way v.shape l.0) v)) e)
+    can_depart_by p l (TileV v) x (is_some (depart_row (link_way v.plan.shape l.0) v.now)) (offered (link_way v.plan.shape l.0) v.now.node) refl
+    (λ k e. ap (λ (o : Option PartView). is_some o) (tile_row_is p l v k e) ∙ some_now v (depart_row (link_way v.plan.shape l.0) v.now))
+    (λ e. ap (λ (o : Option Packet). is_some (option_map (with_node v.now) (departed_with o (link_way v.plan.shape l.0) v.now.node))) e)
 
 -- ---- of a router
 
-router_row_is : (p l : PartId) (v : RouterView) (k : Packet) → router_offers (link_way v.shape l.0) v ≡ Some k → after (event.Depart p l) (crossing.Packet k) (RouterV v) ≡ option_map RouterV (router_departs (link_way v.shape l.0) v)
-router_row_is p l v k e = ap (λ o. option_map RouterV o) (gives (router_offers (link_way v.shape l.0) v) k (router_departs (link_way v.shape l.0) v) e)
+router_row_is : (p l : PartId) (v : RouterView) (k : Packet) → offered (link_way v.plan.shape l.0) v.now.node ≡ Some k → after (event.Depart p l) (crossing.Packet k) (RouterV v) ≡ option_map RouterV (router_now_by v (router_departs (link_way v.plan.shape l.0) v.now))
+router_row_is p l v k e = ap (λ o. option_map RouterV (router_now_by v (option_map (router_with_node v.now) o))) (given (link_way v.plan.shape l.0) k v.now.node e)
 
-pub router_departed : (p l : PartId) (v w : RouterView) (x y : LinkView) (k : Packet) → router_offers (link_way v.shape l.0) v ≡ Some k → router_departs (link_way v.shape l.0) v ≡ Some w → put_in k x ≡ Some y →
+pub router_departed : (p l : PartId) (v w : RouterView) (x y : LinkView) (k : Packet) → offered (link_way v.plan.shape l.0) v.now.node ≡ Some k → router_now_by v (router_departs (link_way v.plan.shape l.0) v.now) ≡ Some w → put_in k x ≡ Some y →
     meets (event.Depart p l) (RouterV v) (LinkV x) ≡ Some (record { low = RouterV w; high = LinkV y })
 router_departed p l v w x y k e row put = departs p l (RouterV v) (RouterV w) x y k e (router_row_is p l v k e ∙ ap (λ o. option_map RouterV o) row) put
 
+some_router : (v : RouterView) (o : Option RouterState) → is_some (option_map RouterV (router_now_by v o)) ≡ is_some o
+some_router v None = refl
+some_router v (Some s) = refl
+
 pub router_can_depart : (p l : PartId) (v : RouterView) (x : LinkView) →
-    is_some (meets (event.Depart p l) (RouterV v) (LinkV x)) ≡ (is_some (router_departs (link_way v.shape l.0) v) && ltb (length x.packets) x.capacity)
+    is_some (meets (event.Depart p l) (RouterV v) (LinkV x)) ≡ (is_some (router_departs (link_way v.plan.shape l.0) v.now) && ltb (length x.packets) x.capacity)
 router_can_depart p l v x =
-    can_depart_by p l (RouterV v) x (is_some (router_departs (link_way v.shape l.0) v)) (router_offers (link_way v.shape l.0) v) refl
-    (λ k e. ap (λ (o : Option PartView). is_some o) (router_row_is p l v k e) ∙ some_mapped RouterV (router_departs (link_way v.shape l.0) v))
-    (λ e. ap (λ (o : Option Packet). is_some (router_departed_with o (link_way v.shape l.0) v)) e)
+    can_depart_by p l (RouterV v) x (is_some (router_departs (link_way v.plan.shape l.0) v.now)) (offered (link_way v.plan.shape l.0) v.now.node) refl
+    (λ k e. ap (λ (o : Option PartView). is_some o) (router_row_is p l v k e) ∙ some_router v (router_departs (link_way v.plan.shape l.0) v.now))
+    (λ e. ap (λ (o : Option Packet). is_some (option_map (router_with_node v.now) (departed_with o (link_way v.plan.shape l.0) v.now.node))) e)
 
 -- ---- an arrival, by the row of the part that takes the packet
 
@@ -199,17 +178,17 @@ can_arrive_by l p low x k e =
 -- ---- at a tile
 
 pub can_arrive : (l p : PartId) (v : TileView) (x : LinkView) (k : Packet) → front_of x ≡ Some k →
-    is_some (meets (event.Arrive l p) (TileV v) (LinkV x)) ≡ is_some (accept_row k v)
-can_arrive l p v x k e = can_arrive_by l p (TileV v) x k e ∙ some_mapped TileV (accept_row k v)
+    is_some (meets (event.Arrive l p) (TileV v) (LinkV x)) ≡ is_some (accept_row v.plan k v.now)
+can_arrive l p v x k e = can_arrive_by l p (TileV v) x k e ∙ some_now v (accept_row v.plan k v.now)
 
-pub cannot_arrive : (l p : PartId) (v : TileView) (x : LinkView) (k : Packet) → front_of x ≡ Some k → is_some (accept_row k v) ≡ false → meets (event.Arrive l p) (TileV v) (LinkV x) ≡ None
+pub cannot_arrive : (l p : PartId) (v : TileView) (x : LinkView) (k : Packet) → front_of x ≡ Some k → is_some (accept_row v.plan k v.now) ≡ false → meets (event.Arrive l p) (TileV v) (LinkV x) ≡ None
 cannot_arrive l p v x k e not = none_is (meets (event.Arrive l p) (TileV v) (LinkV x)) (can_arrive l p v x k e ∙ not)
 
 -- ---- at a router
 
 pub router_can_arrive : (l p : PartId) (v : RouterView) (x : LinkView) (k : Packet) → front_of x ≡ Some k →
-    is_some (meets (event.Arrive l p) (RouterV v) (LinkV x)) ≡ is_some (router_accepts (link_side v.shape l.0) k v)
-router_can_arrive l p v x k e = can_arrive_by l p (RouterV v) x k e ∙ some_mapped RouterV (router_accepts (link_side v.shape l.0) k v)
+    is_some (meets (event.Arrive l p) (RouterV v) (LinkV x)) ≡ is_some (router_accepts v.plan (link_side v.plan.shape l.0) k v.now)
+router_can_arrive l p v x k e = can_arrive_by l p (RouterV v) x k e ∙ some_router v (router_accepts v.plan (link_side v.plan.shape l.0) k v.now)
 
-pub router_cannot_arrive : (l p : PartId) (v : RouterView) (x : LinkView) (k : Packet) → front_of x ≡ Some k → is_some (router_accepts (link_side v.shape l.0) k v) ≡ false → meets (event.Arrive l p) (RouterV v) (LinkV x) ≡ None
+pub router_cannot_arrive : (l p : PartId) (v : RouterView) (x : LinkView) (k : Packet) → front_of x ≡ Some k → is_some (router_accepts v.plan (link_side v.plan.shape l.0) k v.now) ≡ false → meets (event.Arrive l p) (RouterV v) (LinkV x) ≡ None
 router_cannot_arrive l p v x k e not = none_is (meets (event.Arrive l p) (RouterV v) (LinkV x)) (router_can_arrive l p v x k e ∙ not)

@@ -40,7 +40,7 @@ pub record PoolFits (n : ShapeNumbers) (pool : PoolModel) (senders : List Sender
   pub queues : length pool.queues ≡ tile_threads n
   pub slots : length pool.slots ≡ n.slots
   pub slot_bytes : pool.slot_bytes ≡ slot_bytes n
-  pub senders : length senders ≡ n.slots
+  pub sender_count : length senders ≡ n.slots
 
 -- what is pending are packets of the machine, one place for each thread
 pub record PendingFits (n : ShapeNumbers) (pending : List (Option Packet)) : Type 0 where
