@@ -1,11 +1,8 @@
 -- Events on two parts: what their rows give.
-use Rattle.std.proofs.Common.{ℕ, ◌≡◌, ◌==◌, ◌&&◌, Bool, true, false, cond, List, [], ◌∷◌, length, ltb, refl, sym, ap, subst, ◌∙◌, Option, Some, None, is_some, option_map, unwrap_or}
-use Rattle.std.proofs.lemmas.Bool.{eq-eqb}
+use Rattle.std.proofs.Common.{ℕ, ◌≡◌, ◌&&◌, Bool, true, false, cond, List, [], ◌∷◌, length, ltb, refl, sym, ap, ◌∙◌, Option, Some, None, is_some, option_map, unwrap_or}
 use Rattle.tn_base.specs.declared.event.Event.{Event}
 use Rattle.tn_base.specs.declared.event.Event.TheVariants as event
 use Rattle.tn_base.specs.declared.ids.PartId.{PartId}
-use Rattle.tn_base.specs.declared.message.Dest.{Dest}
-use Rattle.tn_base.specs.declared.message.Dest.TheVariants as dest
 use Rattle.tn_base.specs.declared.message.Packet.{Packet}
 use Rattle.tn_link.specs.LinkRows.{first_in, front_of, put_in, rest_in, take_from}
 use Rattle.tn_link.specs.LinkView.{LinkView}
@@ -19,7 +16,7 @@ use Rattle.tn_router.specs.declared.state.RouterState.{RouterState}
 use Rattle.tn_router.specs.RouterView.{RouterView, now_by as router_now_by}
 use Rattle.tn_router.specs.Rows.{accept_row as router_accepts, depart_row as router_departs, with_node as router_with_node}
 use Rattle.tn_rows.specs.Events.{Met, after, crossing_of, given_to, meets, met_by, met_with}
-use Rattle.tn_rows.specs.PartView.{PartView, TileV, RouterV, LinkV, AbsentV}
+use Rattle.tn_rows.specs.PartView.{PartView, TileV, RouterV, LinkV}
 use Rattle.tn_rows.specs.Places.{link_side, link_way}
 
 -- ---- rows of both parts

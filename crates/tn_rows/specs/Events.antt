@@ -1,6 +1,6 @@
 -- What each event makes of a machine, if the event is enabled. A part does a deed of its own, which `deed_of` finds from the event and
 -- what crosses; an event on two parts is a deed of each with the same crossing.
-use Rattle.std.specs.Prelude.{ℕ, ◌≡◌, ◌<◌, ◌++◌, ◌∷◌, [], ◌==◌, ◌&&◌, Bool, true, false, List, length, map, Option, Some, None, option_and_then, option_map, slice_get, slice_index_or, slice_set, if◌then◌else◌}
+use Rattle.std.specs.Prelude.{ℕ, ◌≡◌, ◌<◌, ◌∷◌, [], List, length, Option, Some, None, option_and_then, option_map, slice_get, slice_index_or, slice_set, if◌then◌else◌}
 use Rattle.tn_base.specs.declared.event.Event.{Event}
 use Rattle.tn_base.specs.declared.event.Event.TheVariants as event
 use Rattle.tn_base.specs.declared.message.Packet.{Packet}

@@ -15,11 +15,13 @@ use Rattle.tn_base.specs.Does.{Does}
 use Rattle.tn_base.specs.declared.message.Packet.{Packet}
 use Rattle.tn_link.specs.LinkRows.{front_of, put_in, take_from}
 use Rattle.tn_link.specs.LinkView.{LinkView}
-use Rattle.tn_router.specs.RouterView.{RouterView}
-use Rattle.tn_router.specs.Rows.{accept_row as router_accepts, arrived as router_arrived, can_accept, depart_row as router_departs, offered as router_offers}
+use Rattle.tn_node.specs.NodeRows.{offered}
+use Rattle.tn_router.specs.declared.state.RouterState.{RouterState}
+use Rattle.tn_router.specs.RouterView.{RouterPlan, RouterView, now_by as router_now_by}
+use Rattle.tn_router.specs.Rows.{accept_row as router_accepts, can_accept, depart_row as router_departs, received as router_received}
 use Rattle.tn_rows.proofs.Meeting.{and_true, arrives, can_depart, departed, if_some, router_can_arrive, router_can_depart, router_cannot_arrive, router_departed, some_mapped}
-use Rattle.tn_tile.specs.Rows.{accept_row, accepted, arrived, can_count, depart_row, offered}
-use Rattle.tn_tile.specs.TileView.{TileView}
+use Rattle.tn_tile.specs.Rows.{accept_row, accepted, came, can_count, depart_row}
+use Rattle.tn_tile.specs.TileView.{TilePlan, TileState, TileView, now_by}
 use Rattle.tn_stamp.specs.declared.entry.Crossing.TheVariants as crossing
 use Rattle.tn_rows.specs.Events.{Met, after, meets}
 use Rattle.tn_rows.specs.PartView.{PartView, TileV, RouterV, LinkV}
@@ -41,43 +43,43 @@ ok_if (Ok x) e = refl
 ok_if (Err x) e = cc e
 
 -- a departure of a tile
-pub departed_tile : (p l : PartId) (way : Port) (v w : TileView) (x y : LinkView) (k : Packet) (ok : Bool) → way ≡ link_way v.shape l.0 → Some k ≡ offered way v → ok ≡ true → Does ok (put_in k x) x y → depart_row way v ≡ Some w →
+pub departed_tile : (p l : PartId) (way : Port) (v w : TileView) (x y : LinkView) (k : Packet) (ok : Bool) → way ≡ link_way v.plan.shape l.0 → Some k ≡ offered way v.now.node → ok ≡ true → Does ok (put_in k x) x y → now_by v (depart_row way v.now) ≡ Some w →
     DoesBoth true (meets (event.Depart p l) (TileV v) (LinkV x)) (TileV v) (LinkV x) (TileV w) (LinkV y)
 departed_tile p l way v w x y k ok is offer put does row =
     did_both (meets (event.Depart p l) (TileV v) (LinkV x)) (TileV v) (LinkV x) (TileV w) (LinkV y)
-    (departed p l v w x y k (sym (subst (λ way. Some k ≡ offered way v) is offer)) (subst (λ way. depart_row way v ≡ Some w) is row) (does_some ok (put_in k x) x y put does))
+    (departed p l v w x y k (sym (subst (λ way. Some k ≡ offered way v.now.node) is offer)) (subst (λ way. now_by v (depart_row way v.now) ≡ Some w) is row) (does_some ok (put_in k x) x y put does))
 
-pub departs_if : (p l : PartId) (way : Port) (v : TileView) (x : LinkView) (gives : Bool) (len most : ℕ) → way ≡ link_way v.shape l.0 → gives ≡ is_some (depart_row way v) → gives ≡ true → len ≡ length x.packets → most ≡ x.capacity →
+pub departs_if : (p l : PartId) (way : Port) (v : TileView) (x : LinkView) (gives : Bool) (len most : ℕ) → way ≡ link_way v.plan.shape l.0 → gives ≡ is_some (depart_row way v.now) → gives ≡ true → len ≡ length x.packets → most ≡ x.capacity →
     ltb len most ≡ is_some (meets (event.Depart p l) (TileV v) (LinkV x))
 departs_if p l way v x gives len most is row yes_gives long room =
-    let some : is_some (depart_row (link_way v.shape l.0) v) ≡ true = subst (λ way. is_some (depart_row way v) ≡ true) is (sym row ∙ yes_gives) in
+    let some : is_some (depart_row (link_way v.plan.shape l.0) v.now) ≡ true = subst (λ way. is_some (depart_row way v.now) ≡ true) is (sym row ∙ yes_gives) in
     ap (λ n. ltb n most) long ∙ ap (λ n. ltb (length x.packets) n) room
     ∙ sym (can_depart p l v x ∙ ap (λ b. b && ltb (length x.packets) x.capacity) some)
 
-pub departs_not : (p l : PartId) (way : Port) (v : TileView) (x : LinkView) (gives : Bool) → way ≡ link_way v.shape l.0 → gives ≡ is_some (depart_row way v) → gives ≡ false →
+pub departs_not : (p l : PartId) (way : Port) (v : TileView) (x : LinkView) (gives : Bool) → way ≡ link_way v.plan.shape l.0 → gives ≡ is_some (depart_row way v.now) → gives ≡ false →
     false ≡ is_some (meets (event.Depart p l) (TileV v) (LinkV x))
 departs_not p l way v x gives is row not_gives =
-    let some : is_some (depart_row (link_way v.shape l.0) v) ≡ false = subst (λ way. is_some (depart_row way v) ≡ false) is (sym row ∙ not_gives) in
+    let some : is_some (depart_row (link_way v.plan.shape l.0) v.now) ≡ false = subst (λ way. is_some (depart_row way v.now) ≡ false) is (sym row ∙ not_gives) in
     sym (can_depart p l v x ∙ ap (λ b. b && ltb (length x.packets) x.capacity) some)
 
 -- and of a router
-pub departed_router : (p l : PartId) (way : Port) (v w : RouterView) (x y : LinkView) (k : Packet) (ok : Bool) → way ≡ link_way v.shape l.0 → Some k ≡ router_offers way v → ok ≡ true → Does ok (put_in k x) x y → router_departs way v ≡ Some w →
+pub departed_router : (p l : PartId) (way : Port) (v w : RouterView) (x y : LinkView) (k : Packet) (ok : Bool) → way ≡ link_way v.plan.shape l.0 → Some k ≡ offered way v.now.node → ok ≡ true → Does ok (put_in k x) x y → router_now_by v (router_departs way v.now) ≡ Some w →
     DoesBoth true (meets (event.Depart p l) (RouterV v) (LinkV x)) (RouterV v) (LinkV x) (RouterV w) (LinkV y)
 departed_router p l way v w x y k ok is offer put does row =
     did_both (meets (event.Depart p l) (RouterV v) (LinkV x)) (RouterV v) (LinkV x) (RouterV w) (LinkV y)
-    (router_departed p l v w x y k (sym (subst (λ way. Some k ≡ router_offers way v) is offer)) (subst (λ way. router_departs way v ≡ Some w) is row) (does_some ok (put_in k x) x y put does))
+    (router_departed p l v w x y k (sym (subst (λ way. Some k ≡ offered way v.now.node) is offer)) (subst (λ way. router_now_by v (router_departs way v.now) ≡ Some w) is row) (does_some ok (put_in k x) x y put does))
 
-pub router_departs_if : (p l : PartId) (way : Port) (v : RouterView) (x : LinkView) (gives : Bool) (len most : ℕ) → way ≡ link_way v.shape l.0 → gives ≡ is_some (router_departs way v) → gives ≡ true → len ≡ length x.packets → most ≡ x.capacity →
+pub router_departs_if : (p l : PartId) (way : Port) (v : RouterView) (x : LinkView) (gives : Bool) (len most : ℕ) → way ≡ link_way v.plan.shape l.0 → gives ≡ is_some (router_departs way v.now) → gives ≡ true → len ≡ length x.packets → most ≡ x.capacity →
     ltb len most ≡ is_some (meets (event.Depart p l) (RouterV v) (LinkV x))
 router_departs_if p l way v x gives len most is row yes_gives long room =
-    let some : is_some (router_departs (link_way v.shape l.0) v) ≡ true = subst (λ way. is_some (router_departs way v) ≡ true) is (sym row ∙ yes_gives) in
+    let some : is_some (router_departs (link_way v.plan.shape l.0) v.now) ≡ true = subst (λ way. is_some (router_departs way v.now) ≡ true) is (sym row ∙ yes_gives) in
     ap (λ n. ltb n most) long ∙ ap (λ n. ltb (length x.packets) n) room
     ∙ sym (router_can_depart p l v x ∙ ap (λ b. b && ltb (length x.packets) x.capacity) some)
 
-pub router_departs_not : (p l : PartId) (way : Port) (v : RouterView) (x : LinkView) (gives : Bool) → way ≡ link_way v.shape l.0 → gives ≡ is_some (router_departs way v) → gives ≡ false →
+pub router_departs_not : (p l : PartId) (way : Port) (v : RouterView) (x : LinkView) (gives : Bool) → way ≡ link_way v.plan.shape l.0 → gives ≡ is_some (router_departs way v.now) → gives ≡ false →
     false ≡ is_some (meets (event.Depart p l) (RouterV v) (LinkV x))
 router_departs_not p l way v x gives is row not_gives =
-    let some : is_some (router_departs (link_way v.shape l.0) v) ≡ false = subst (λ way. is_some (router_departs way v) ≡ false) is (sym row ∙ not_gives) in
+    let some : is_some (router_departs (link_way v.plan.shape l.0) v.now) ≡ false = subst (λ way. is_some (router_departs way v.now) ≡ false) is (sym row ∙ not_gives) in
     sym (router_can_depart p l v x ∙ ap (λ b. b && ltb (length x.packets) x.capacity) some)
 
 -- an arrival, by the row of the part
@@ -87,35 +89,35 @@ arrived_part l p low new x y k got front row is does =
     did_both (meets (event.Arrive l p) low (LinkV x)) low (LinkV x) new (LinkV y)
     (arrives l p low new x y k (sym front) row (does_some (is_some got) (take_from x) x y (ap (λ (o : Option Packet). is_some o) (is ∙ sym front)) does))
 
-pub arrived_tile : (l p : PartId) (v w : TileView) (x y : LinkView) (k : Packet) (got : Option Packet) → Some k ≡ front_of x → accept_row k v ≡ Some w → got ≡ front_of x → Does (is_some got) (take_from x) x y →
+pub arrived_tile : (l p : PartId) (v w : TileView) (x y : LinkView) (k : Packet) (got : Option Packet) → Some k ≡ front_of x → now_by v (accept_row v.plan k v.now) ≡ Some w → got ≡ front_of x → Does (is_some got) (take_from x) x y →
     DoesBoth true (meets (event.Arrive l p) (TileV v) (LinkV x)) (TileV v) (LinkV x) (TileV w) (LinkV y)
 arrived_tile l p v w x y k got front row is does = arrived_part l p (TileV v) (TileV w) x y k got front (ap (λ o. option_map TileV o) row) is does
 
-pub arrived_router : (l p : PartId) (side : Port) (v w : RouterView) (x y : LinkView) (k : Packet) (got : Option Packet) → side ≡ link_side v.shape l.0 → Some k ≡ front_of x → router_accepts side k v ≡ Some w → got ≡ front_of x → Does (is_some got) (take_from x) x y →
+pub arrived_router : (l p : PartId) (side : Port) (v w : RouterView) (x y : LinkView) (k : Packet) (got : Option Packet) → side ≡ link_side v.plan.shape l.0 → Some k ≡ front_of x → router_now_by v (router_accepts v.plan side k v.now) ≡ Some w → got ≡ front_of x → Does (is_some got) (take_from x) x y →
     DoesBoth true (meets (event.Arrive l p) (RouterV v) (LinkV x)) (RouterV v) (LinkV x) (RouterV w) (LinkV y)
 arrived_router l p side v w x y k got at front row is does =
-    arrived_part l p (RouterV v) (RouterV w) x y k got front (ap (λ o. option_map RouterV o) (subst (λ side. router_accepts side k v ≡ Some w) at row)) is does
+    arrived_part l p (RouterV v) (RouterV w) x y k got front (ap (λ o. option_map RouterV o) (subst (λ side. router_now_by v (router_accepts v.plan side k v.now) ≡ Some w) at row)) is does
 
-pub router_arrives_if : (l p : PartId) (side : Port) (v : RouterView) (x : LinkView) (k : Packet) (takes : Bool) → side ≡ link_side v.shape l.0 → Some k ≡ front_of x → takes ≡ is_some (router_accepts side k v) →
+pub router_arrives_if : (l p : PartId) (side : Port) (v : RouterView) (x : LinkView) (k : Packet) (takes : Bool) → side ≡ link_side v.plan.shape l.0 → Some k ≡ front_of x → takes ≡ is_some (router_accepts v.plan side k v.now) →
     takes ≡ is_some (meets (event.Arrive l p) (RouterV v) (LinkV x))
 router_arrives_if l p side v x k takes at front row =
-    subst (λ side. takes ≡ is_some (router_accepts side k v)) at row ∙ sym (router_can_arrive l p v x k (sym front))
+    subst (λ side. takes ≡ is_some (router_accepts v.plan side k v.now)) at row ∙ sym (router_can_arrive l p v x k (sym front))
 
-pub router_arrives_not : (l p : PartId) (side : Port) (v : RouterView) (x : LinkView) (k : Packet) (takes : Bool) → side ≡ link_side v.shape l.0 → Some k ≡ front_of x → takes ≡ is_some (router_accepts side k v) → takes ≡ false →
+pub router_arrives_not : (l p : PartId) (side : Port) (v : RouterView) (x : LinkView) (k : Packet) (takes : Bool) → side ≡ link_side v.plan.shape l.0 → Some k ≡ front_of x → takes ≡ is_some (router_accepts v.plan side k v.now) → takes ≡ false →
     meets (event.Arrive l p) (RouterV v) (LinkV x) ≡ None
 router_arrives_not l p side v x k takes at front row not =
-    router_cannot_arrive l p v x k (sym front) (sym (subst (λ side. takes ≡ is_some (router_accepts side k v)) at row) ∙ not)
+    router_cannot_arrive l p v x k (sym front) (sym (subst (λ side. takes ≡ is_some (router_accepts v.plan side k v.now)) at row) ∙ not)
 
 -- a tile takes a packet
-pub takes : (v : TileView) (k : Packet) (z : ℤ) (r : Bool) → can_count v ≡ true → z ≡ v.counter → FitsSigned w64 z → int_lt (neg_ℤ (pos (2 ^ 63))) (to_z w64 (of_z w64 z)) ≡ true → r ≡ is_some (accepted k v) → r ≡ is_some (accept_row k v)
-takes v k z r counts is fits low some =
-    let here : int_lt (neg_ℤ (pos (2 ^ 63))) v.counter ≡ true = subst (λ x. int_lt (neg_ℤ (pos (2 ^ 63))) x ≡ true) (to_z-of_z w64 z fits ∙ is) low in
-    let same : is_some (accept_row k v) ≡ is_some (accepted k v) = rw (counts, here) (some_mapped arrived (accepted k v)) in
+pub takes : (plan : TilePlan) (s : TileState) (k : Packet) (z : ℤ) (r : Bool) → can_count s ≡ true → z ≡ s.node.counter → FitsSigned w64 z → int_lt (neg_ℤ (pos (2 ^ 63))) (to_z w64 (of_z w64 z)) ≡ true → r ≡ is_some (accepted plan k s) → r ≡ is_some (accept_row plan k s)
+takes plan s k z r counts is fits low some =
+    let here : int_lt (neg_ℤ (pos (2 ^ 63))) s.node.counter ≡ true = subst (λ x. int_lt (neg_ℤ (pos (2 ^ 63))) x ≡ true) (to_z-of_z w64 z fits ∙ is) low in
+    let same : is_some (accept_row plan k s) ≡ is_some (accepted plan k s) = rw (counts, here) (some_mapped came (accepted plan k s)) in
     some ∙ sym same
 
 -- a router takes a packet
-pub receives : (v : RouterView) (side : Port) (k : Packet) (z : ℤ) (r : Bool) → z ≡ v.counter → FitsSigned w64 z → int_lt (neg_ℤ (pos (2 ^ 63))) (to_z w64 (of_z w64 z)) ≡ true → r ≡ can_accept side k v → r ≡ is_some (router_accepts side k v)
-receives v side k z r is fits low some =
-    let here : int_lt (neg_ℤ (pos (2 ^ 63))) v.counter ≡ true = subst (λ x. int_lt (neg_ℤ (pos (2 ^ 63))) x ≡ true) (to_z-of_z w64 z fits ∙ is) low in
-    let both : (can_accept side k v && int_lt (neg_ℤ (pos (2 ^ 63))) v.counter) ≡ can_accept side k v = ap (λ b. can_accept side k v && b) here ∙ and_true (can_accept side k v) in
-    some ∙ sym (if_some (can_accept side k v && int_lt (neg_ℤ (pos (2 ^ 63))) v.counter) (router_arrived side k v) ∙ both)
+pub receives : (plan : RouterPlan) (s : RouterState) (side : Port) (k : Packet) (z : ℤ) (r : Bool) → z ≡ s.node.counter → FitsSigned w64 z → int_lt (neg_ℤ (pos (2 ^ 63))) (to_z w64 (of_z w64 z)) ≡ true → r ≡ can_accept plan side k s → r ≡ is_some (router_accepts plan side k s)
+receives plan s side k z r is fits low some =
+    let here : int_lt (neg_ℤ (pos (2 ^ 63))) s.node.counter ≡ true = subst (λ x. int_lt (neg_ℤ (pos (2 ^ 63))) x ≡ true) (to_z-of_z w64 z fits ∙ is) low in
+    let both : (can_accept plan side k s && int_lt (neg_ℤ (pos (2 ^ 63))) s.node.counter) ≡ can_accept plan side k s = ap (λ b. can_accept plan side k s && b) here ∙ and_true (can_accept plan side k s) in
+    some ∙ sym (if_some (can_accept plan side k s && int_lt (neg_ℤ (pos (2 ^ 63))) s.node.counter) (router_received plan side k s) ∙ both)

@@ -10,18 +10,14 @@ use Rattle.tn_base.specs.declared.message.Packet.{Packet}
 use Rattle.tn_base.specs.declared.port.Port.{Port}
 use Rattle.tn_base.specs.declared.port.Port.TheVariants as port
 use Rattle.tn_base.specs.Parts.{kind_of, part_count, visited}
+use Rattle.tn_node.proofs.PortLaws.{empty_at, not_false}
+use Rattle.tn_node.specs.PortRows.{all_empty, at}
 use Rattle.tn_rows.proofs.Meeting.{no_crossing, none_is}
 use Rattle.tn_rows.specs.Events.{after, carried, crossing_of, given_to, happened, happened_at, meets_at, with_both, with_part}
-use Rattle.tn_router.specs.Places.{buffer_at as out_at}
-use Rattle.tn_router.specs.Rows.{none_waits as none_waits_out}
-use Rattle.tn_router.specs.declared.buffers.Buffers.{Buffers as Outs}
 use Rattle.tn_rows.specs.PartView.{PartView, TileV, RouterV, LinkV, AbsentV}
 use Rattle.tn_rows.specs.Places.{detector_part, leads_from, leads_to, link_way, one_if, two_if}
 use Rattle.tn_rows.specs.WorldView.{WorldView}
 use Rattle.tn_stamp.specs.declared.entry.Crossing.TheVariants as crossing
-use Rattle.tn_tile.specs.Rows.{buffer_at}
-use Rattle.tn_tile.specs.Still.{none_waits}
-use Rattle.tn_tile.specs.declared.buffers.Buffers.{Buffers}
 use Rattle.tn_world.specs.Plays.{offers}
 
 -- an event that no part has a row for
@@ -110,88 +106,13 @@ high_past e w false p q h = refl
 
 -- ---- parts that give nothing
 
-none_here : {A : Type 0} (o : Option A) → is_none o ≡ true → o ≡ None
-none_here None e = refl
-none_here (Some x) e = cc e
-
--- no buffer is taken
-record Empty (b : Buffers) : Type 0 where
-  pub east : b.east ≡ None
-  pub west : b.west ≡ None
-  pub south : b.south ≡ None
-  pub north : b.north ≡ None
-  pub up : b.up ≡ None
-
-empty : (b : Buffers) → none_waits b ≡ true → Empty b
-empty b e =
-    let last = and_parts (is_none b.east && is_none b.west && is_none b.south && is_none b.north) (is_none b.up) e in
-    let fourth = and_parts (is_none b.east && is_none b.west && is_none b.south) (is_none b.north) last.0 in
-    let third = and_parts (is_none b.east && is_none b.west) (is_none b.south) fourth.0 in
-    let second = and_parts (is_none b.east) (is_none b.west) third.0 in
-    record {
-      east = none_here b.east second.0;
-      west = none_here b.west second.1;
-      south = none_here b.south third.1;
-      north = none_here b.north fourth.1;
-      up = none_here b.up last.1;
-    }
-
-empty_at : (way : Port) (b : Buffers) → Empty b → buffer_at way b ≡ None
-empty_at port.East b e = e.east
-empty_at port.West b e = e.west
-empty_at port.South b e = e.south
-empty_at port.North b e = e.north
-empty_at port.Up b e = e.up
-empty_at port.Down b e = refl
-empty_at port.HostPort b e = refl
-empty_at port.Here b e = refl
-
--- the same of a router
-record Bare (b : Outs) : Type 0 where
-  pub east : b.east ≡ None
-  pub west : b.west ≡ None
-  pub south : b.south ≡ None
-  pub north : b.north ≡ None
-  pub down : b.down ≡ None
-  pub host : b.host ≡ None
-
-bare : (b : Outs) → none_waits_out b ≡ true → Bare b
-bare b e =
-    let last = and_parts (is_none b.east && is_none b.west && is_none b.south && is_none b.north && is_none b.down) (is_none b.host) e in
-    let fifth = and_parts (is_none b.east && is_none b.west && is_none b.south && is_none b.north) (is_none b.down) last.0 in
-    let fourth = and_parts (is_none b.east && is_none b.west && is_none b.south) (is_none b.north) fifth.0 in
-    let third = and_parts (is_none b.east && is_none b.west) (is_none b.south) fourth.0 in
-    let second = and_parts (is_none b.east) (is_none b.west) third.0 in
-    record {
-      east = none_here b.east second.0;
-      west = none_here b.west second.1;
-      south = none_here b.south third.1;
-      north = none_here b.north fourth.1;
-      down = none_here b.down fifth.1;
-      host = none_here b.host last.1;
-    }
-
-bare_at : (way : Port) (b : Outs) → Bare b → out_at way b ≡ None
-bare_at port.East b e = e.east
-bare_at port.West b e = e.west
-bare_at port.South b e = e.south
-bare_at port.North b e = e.north
-bare_at port.Up b e = refl
-bare_at port.Down b e = e.down
-bare_at port.HostPort b e = e.host
-bare_at port.Here b e = refl
-
 unless_held : (held : Bool) (o : Option Packet) → o ≡ None → cond held None o ≡ None
 unless_held true o e = refl
 unless_held false o e = e
 
-not_false : (b : Bool) → not b ≡ false → b ≡ true
-not_false true e = refl
-not_false false e = cc e
-
 gives_none : (l : ℕ) (x : PartView) → offers x ≡ false → given_to l x ≡ None
-gives_none l (TileV v) e = unless_held v.held (buffer_at (link_way v.shape l) v.transit) (empty_at (link_way v.shape l) v.transit (empty v.transit (not_false (none_waits v.transit) e)))
-gives_none l (RouterV v) e = unless_held v.held (out_at (link_way v.shape l) v.out) (bare_at (link_way v.shape l) v.out (bare v.out (not_false (none_waits_out v.out) e)))
+gives_none l (TileV v) e = unless_held v.now.node.held (at (link_way v.plan.shape l) v.now.node.out) (empty_at (link_way v.plan.shape l) v.now.node.out (not_false (all_empty v.now.node.out) e))
+gives_none l (RouterV v) e = unless_held v.now.node.held (at (link_way v.plan.shape l) v.now.node.out) (empty_at (link_way v.plan.shape l) v.now.node.out (not_false (all_empty v.now.node.out) e))
 gives_none l (LinkV v) e = refl
 gives_none l AbsentV e = refl
 

@@ -13,15 +13,15 @@ DoesBoth happened row low high low' high' =
 
 -- link l leads away from a tile or a router by this way
 abbrev pub IsWay : PartView → ℕ → Port → Type 0
-IsWay (TileV v) l way = way ≡ link_way v.shape l
-IsWay (RouterV v) l way = way ≡ link_way v.shape l
+IsWay (TileV v) l way = way ≡ link_way v.plan.shape l
+IsWay (RouterV v) l way = way ≡ link_way v.plan.shape l
 IsWay (LinkV v) l way = Unit {0}
 IsWay AbsentV l way = Unit {0}
 
 -- link l leads to a router from this side; all sides of a tile are alike
 abbrev pub IsSide : PartView → ℕ → Port → Type 0
 IsSide (TileV v) l side = Unit {0}
-IsSide (RouterV v) l side = side ≡ link_side v.shape l
+IsSide (RouterV v) l side = side ≡ link_side v.plan.shape l
 IsSide (LinkV v) l side = Unit {0}
 IsSide AbsentV l side = Unit {0}
 

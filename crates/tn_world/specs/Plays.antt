@@ -8,11 +8,10 @@ use Rattle.tn_rows.specs.Events.{after, happened, Rests}
 use Rattle.tn_rows.specs.PartView.{PartView, TileV, RouterV, LinkV, AbsentV}
 use Rattle.tn_rows.specs.Runs.{IsLongest, LongRun}
 use Rattle.tn_rows.specs.WorldView.{WorldView}
-use Rattle.tn_router.specs.Rows.{none_waits as none_waits_out}
+use Rattle.tn_node.specs.PortRows.{all_empty}
 use Rattle.tn_stamp.specs.declared.entry.Crossing.TheVariants as crossing
 use Rattle.tn_tile.specs.declared.step.Turned.{Turned}
 use Rattle.tn_tile.specs.declared.step.Turned.TheVariants as turned
-use Rattle.tn_tile.specs.Still.{none_waits}
 
 -- a turn on a part is the longest one, or there is none and nothing changes
 abbrev pub TurnsPart : Turned → ThreadId → PartView → PartView → Type 0
@@ -26,8 +25,8 @@ Turns turned.Nothing t old new = (new ≡ old) × ((m : ℕ) → happened (event
 
 -- a packet waits on a part for a way out
 abbrev pub offers : PartView → Bool
-offers (TileV v) = not (none_waits v.transit)
-offers (RouterV v) = not (none_waits_out v.out)
+offers (TileV v) = not (all_empty v.now.node.out)
+offers (RouterV v) = not (all_empty v.now.node.out)
 offers (LinkV v) = false
 offers AbsentV = false
 
@@ -42,9 +41,9 @@ pub record Played (limit : ℕ) (start : WorldView) (history : List Event) (end 
   pub few : length history ≤ limit
   pub stops : length history < limit → MatchOption (final_after (last_of history) end) (Rests end) (λ o. Unit {0})
 
--- a machine after some events, each turn the longest
-abbrev pub Reached : WorldView → WorldView → Type 0
-Reached start end = (history : List Event) × LongRun start history end
+-- a machine after some events, at most `limit`, each turn the longest
+abbrev pub Reached : ℕ → WorldView → WorldView → Type 0
+Reached limit start end = (history : List Event) × (length history ≤ limit) × LongRun start history end
 
 -- an event is enabled, and none before it in the list is
 abbrev pub First : WorldView → List Event → Event → Type 0
