@@ -1,5 +1,6 @@
 -- What another value for one port leaves at each port.
 use Rattle.std.proofs.Common.{◌≡◌, ◌&&◌, Bool, true, false, not, refl, Option, None, Some, is_none}
+use Rattle.std.proofs.lemmas.Bool.{and_parts}
 use Rattle.tn_base.specs.declared.port.Port.{Port}
 use Rattle.tn_base.specs.declared.port.Port.TheVariants as port
 use Rattle.tn_node.specs.declared.ports.Ports.{Ports}

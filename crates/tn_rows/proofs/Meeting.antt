@@ -110,7 +110,7 @@ pub departed : (p l : PartId) (v w : TileView) (x y : LinkView) (k : Packet) →
     meets (event.Depart p l) (TileV v) (LinkV x) ≡ Some (record { low = TileV w; high = LinkV y })
 departed p l v w x y k e row put = departs p l (TileV v) (TileV w) x y k e (tile_row_is p l v k e ∙ ap (λ o. option_map TileV o) row) put
 
-some_now : (v : TileView) (o : Option TileState) → is_some (option_map TileV (now_by v o)) ≡ is_some o
+pub some_now : (v : TileView) (o : Option TileState) → is_some (option_map TileV (now_by v o)) ≡ is_some o
 some_now v None = refl
 some_now v (Some s) = refl
 
@@ -131,7 +131,7 @@ pub router_departed : (p l : PartId) (v w : RouterView) (x y : LinkView) (k : Pa
     meets (event.Depart p l) (RouterV v) (LinkV x) ≡ Some (record { low = RouterV w; high = LinkV y })
 router_departed p l v w x y k e row put = departs p l (RouterV v) (RouterV w) x y k e (router_row_is p l v k e ∙ ap (λ o. option_map RouterV o) row) put
 
-some_router : (v : RouterView) (o : Option RouterState) → is_some (option_map RouterV (router_now_by v o)) ≡ is_some o
+pub some_router : (v : RouterView) (o : Option RouterState) → is_some (option_map RouterV (router_now_by v o)) ≡ is_some o
 some_router v None = refl
 some_router v (Some s) = refl
 

@@ -21,8 +21,7 @@ abbrev pub IsLongest : Event → WorldView → Type 0
 IsLongest (event.Turn t n) w = (m : ℕ) → n < m → happened (event.Turn t m) w ≡ None
 IsLongest _ w = Unit {0}
 
--- a run each of whose turns is the longest
-abbrev pub LongRun : WorldView → List Event → WorldView → Type 0
-LongRun start [] end = start ≡ end
-LongRun start (e ∷ es) end =
-    (mid : WorldView) × (happened e start ≡ Some mid) × IsLongest e start × (es ≢ [] → final_of e mid ≡ None) × LongRun mid es end
+-- no turn of these events could have been longer, if each event is enabled in turn
+abbrev pub LongTurns : WorldView → List Event → Type 0
+LongTurns start [] = Unit {0}
+LongTurns start (e ∷ es) = IsLongest e start × ((mid : WorldView) → happened e start ≡ Some mid → LongTurns mid es)

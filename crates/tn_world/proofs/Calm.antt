@@ -7,7 +7,7 @@ use Rattle.tn_base.specs.declared.event.Event.{Event}
 use Rattle.tn_base.specs.declared.event.Outcome.{Outcome}
 use Rattle.tn_rows.specs.Ends.{final_after, final_of, last_of}
 use Rattle.tn_rows.specs.Events.{happened, Rests}
-use Rattle.tn_rows.specs.Runs.{IsLongest, LongRun}
+use Rattle.tn_rows.specs.Runs.{IsLongest, LongTurns, Run}
 use Rattle.tn_rows.specs.WorldView.{WorldView}
 use Rattle.tn_base.specs.Does.{Does}
 use Rattle.tn_tile.specs.declared.deliver.Did.{Did}
@@ -22,9 +22,17 @@ abbrev pub Calm : WorldView → List Event → WorldView → Type 0
 Calm start [] end = start ≡ end
 Calm start (e ∷ es) end = (mid : WorldView) × (happened e start ≡ Some mid) × IsLongest e start × (final_of e mid ≡ None) × Calm mid es end
 
-pub calm_runs : (start : WorldView) (history : List Event) (end : WorldView) → Calm start history end → LongRun start history end
+-- what an event makes of a machine is one machine
+one_end : (e : Event) (start a b : WorldView) → happened e start ≡ Some a → happened e start ≡ Some b → a ≡ b
+one_end e start a b h k = let is : Some a ≡ Some b = sym h ∙ k in cc is
+
+calm_runs : (start : WorldView) (history : List Event) (end : WorldView) → Calm start history end → Run start history end
 calm_runs start [] end h = h
-calm_runs start (e ∷ es) end h = (h.0, h.1, h.2, λ _. h.3, calm_runs h.0 es end h.4)
+calm_runs start (e ∷ es) end h = (h.0, h.1, λ _. h.3, calm_runs h.0 es end h.4)
+
+calm_longest : (start : WorldView) (history : List Event) (end : WorldView) → Calm start history end → LongTurns start history
+calm_longest start [] end h = tt
+calm_longest start (e ∷ es) end h = (h.2, λ mid is. subst (λ (m : WorldView). LongTurns m es) (one_end e start h.0 mid h.1 is) (calm_longest h.0 es end h.4))
 
 pub calm_last : (start : WorldView) (history : List Event) (end : WorldView) → Calm start history end → final_after (last_of history) end ≡ None
 calm_last start [] end h = refl
@@ -39,11 +47,18 @@ calm_more start [] mid end e h step calm =
 calm_more start (f ∷ fs) mid end e h step calm = (h.0, h.1, h.2, h.3, calm_more h.0 fs mid end e h.4 step calm)
 
 -- the last event may be final
-pub calm_final : (start : WorldView) (history : List Event) (mid end : WorldView) (e : Event) → Calm start history mid → Makes e mid end → LongRun start (history ++ e ∷ []) end
+calm_final : (start : WorldView) (history : List Event) (mid end : WorldView) (e : Event) → Calm start history mid → Makes e mid end → Run start (history ++ e ∷ []) end
 calm_final start [] mid end e h step =
     let s : Makes e start end = subst (λ (m : WorldView). Makes e m end) (sym h) step in
-    (end, s.happens, s.longest, λ ne. absurd (ne refl), refl)
-calm_final start (f ∷ fs) mid end e h step = (h.0, h.1, h.2, λ _. h.3, calm_final h.0 fs mid end e h.4 step)
+    (end, s.happens, λ ne. absurd (ne refl), refl)
+calm_final start (f ∷ fs) mid end e h step = (h.0, h.1, λ _. h.3, calm_final h.0 fs mid end e h.4 step)
+
+final_longest : (start : WorldView) (history : List Event) (mid end : WorldView) (e : Event) → Calm start history mid → Makes e mid end → LongTurns start (history ++ e ∷ [])
+final_longest start [] mid end e h step =
+    let s : Makes e start end = subst (λ (m : WorldView). Makes e m end) (sym h) step in
+    (s.longest, λ m is. tt)
+final_longest start (f ∷ fs) mid end e h step =
+    (h.2, λ m is. subst (λ (w : WorldView). LongTurns w (fs ++ e ∷ [])) (one_end f start h.0 m h.1 is) (final_longest h.0 fs mid end e h.4 step))
 
 pub last_of-append : (history : List Event) (e : Event) → last_of (history ++ e ∷ []) ≡ Some e
 last_of-append [] e = refl
@@ -62,6 +77,7 @@ stops_rest start history m h rests = rw (calm_last start history m h) rests
 pub played_rest : (limit : ℕ) (start : WorldView) (history : List Event) (mid end : WorldView) → Calm start history mid → length history ≤ limit → end ≡ mid → Rests mid → Played limit start history end
 played_rest limit start history mid end calm few same rests = rw same (record {
   run = calm_runs start history mid calm;
+  longest = calm_longest start history mid calm;
   few = few;
   stops = λ _. stops_rest start history mid calm rests;
 })
@@ -69,6 +85,7 @@ played_rest limit start history mid end calm few same rests = rw same (record {
 pub played_limit : (limit : ℕ) (start : WorldView) (history : List Event) (end : WorldView) → Calm start history end → length history ≤ limit → limit ≤ length history → Played limit start history end
 played_limit limit start history end calm few all = record {
   run = calm_runs start history end calm;
+  longest = calm_longest start history end calm;
   few = few;
   stops = λ h. absurd (omega (arith, all, h));
 }
@@ -80,6 +97,7 @@ final_by (Some o) history e m is some = stops_final history e m o is
 pub played_final : (limit : ℕ) (start : WorldView) (history now : List Event) (mid end : WorldView) (e : Event) → Calm start history mid → length history < limit → now ≡ history ++ e ∷ [] → Makes e mid end → is_some (final_of e end) ≡ true → Played limit start now end
 played_final limit start history now mid end e calm less is step some = rw is (record {
   run = calm_final start history mid end e calm step;
+  longest = final_longest start history mid end e calm step;
   few = omega (arith, less, length-append history (e ∷ []));
   stops = λ _. final_by (final_of e end) history e end refl some;
 })
@@ -94,8 +112,9 @@ calm_on limit start history now mid end e calm less is step not = rw is (
   omega (arith, less, length-append history (e ∷ [])),
 )
 
-pub reached : (start : WorldView) (history : List Event) (mid end : WorldView) (e : Event) → Calm start history mid → Makes e mid end → Reached start end
-reached start history mid end e calm step = (history ++ e ∷ [], calm_final start history mid end e calm step)
+pub reached : (limit : ℕ) (start : WorldView) (history : List Event) (mid end : WorldView) (e : Event) → Calm start history mid → length history < limit → Makes e mid end → Reached limit start end
+reached limit start history mid end e calm less step =
+    (history ++ e ∷ [], omega (arith, less, length-append history (e ∷ [])), calm_final start history mid end e calm step, final_longest start history mid end e calm step)
 
 -- a call that failed
 pub on_error : {X E : Type 0} (r : Result X E) (P : X → Type 0) (Q : Type 0) → IsErr r → Q → MatchResult r P (λ _. Q)

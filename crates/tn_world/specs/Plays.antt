@@ -6,7 +6,7 @@ use Rattle.tn_base.specs.declared.ids.ThreadId.{ThreadId}
 use Rattle.tn_rows.specs.Ends.{final_after, last_of}
 use Rattle.tn_rows.specs.Events.{after, happened, Rests}
 use Rattle.tn_rows.specs.PartView.{PartView, TileV, RouterV, LinkV, AbsentV}
-use Rattle.tn_rows.specs.Runs.{IsLongest, LongRun}
+use Rattle.tn_rows.specs.Runs.{IsLongest, LongTurns, Run}
 use Rattle.tn_rows.specs.WorldView.{WorldView}
 use Rattle.tn_node.specs.PortRows.{all_empty}
 use Rattle.tn_stamp.specs.declared.entry.Crossing.TheVariants as crossing
@@ -37,13 +37,14 @@ pub record Makes (e : Event) (old new : WorldView) : Type 0 where
 
 -- a run of longest turns that ends with a final event, where no event is enabled, or at its limit
 pub record Played (limit : ℕ) (start : WorldView) (history : List Event) (end : WorldView) : Type 0 where
-  pub run : LongRun start history end
+  pub run : Run start history end
+  pub longest : LongTurns start history
   pub few : length history ≤ limit
   pub stops : length history < limit → MatchOption (final_after (last_of history) end) (Rests end) (λ o. Unit {0})
 
 -- a machine after some events, at most `limit`, each turn the longest
 abbrev pub Reached : ℕ → WorldView → WorldView → Type 0
-Reached limit start end = (history : List Event) × (length history ≤ limit) × LongRun start history end
+Reached limit start end = (history : List Event) × (length history ≤ limit) × Run start history end × LongTurns start history
 
 -- an event is enabled, and none before it in the list is
 abbrev pub First : WorldView → List Event → Event → Type 0

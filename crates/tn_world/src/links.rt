@@ -29,14 +29,14 @@ use tn_tile::tile::Tile;
 
 /// Whether a tile can give a packet to a link that leads away by this way.
 fn can_give(tile: &Tile, way: Port) -> bool
-    ensures { result ≡ is_some (depart_row way tile.now) }
+    ensures { result ≡ is_some (depart_row way tile.now.now) }
 {
     tile.counter() < i64::MAX && tile.offer(way).is_some()
 }
 
 /// Whether a tile can take this packet from a link.
 fn can_take(tile: &Tile, packet: &Packet) -> bool
-    ensures { result ≡ is_some (accept_row packet.now tile.now) }
+    ensures { result ≡ is_some (accept_row tile.now.plan packet.now tile.now.now) }
 {
     if !tile.counts() {
         return false;
@@ -46,7 +46,7 @@ fn can_take(tile: &Tile, packet: &Packet) -> bool
 
 /// A packet goes from a tile to the link, which leads away by this way.
 fn depart_tile<L: Link>(tile: &mut Tile, link: &mut L, p: PartId, l: PartId, way: Port) -> Did
-    requires { way ≡ link_way tile.old.shape l.0 }
+    requires { way ≡ link_way tile.old.plan.shape l.0 }
     ensures { DoesBoth (moved result) (meets (event.Depart p l) (TileV tile.old) (LinkV (L.content link.old))) (TileV tile.old) (LinkV (L.content link.old)) (TileV tile.new) (LinkV (L.content link.new)) }
 {
     if tile.counter() == i64::MAX {
@@ -79,7 +79,7 @@ fn arrive_tile<L: Link>(tile: &mut Tile, link: &mut L, l: PartId, p: PartId) -> 
 
 /// Whether a packet can go from a tile to the link, which leads away by this way.
 fn can_depart_tile<L: Link>(tile: &Tile, link: &L, p: PartId, l: PartId, way: Port) -> bool
-    requires { way ≡ link_way tile.now.shape l.0 }
+    requires { way ≡ link_way tile.now.plan.shape l.0 }
     ensures { result ≡ is_some (meets (event.Depart p l) (TileV tile.now) (LinkV (L.content link.now))) }
 {
     can_give(tile, way) && link.len() < link.capacity()
@@ -97,21 +97,21 @@ fn can_arrive_tile<L: Link>(tile: &Tile, link: &L, l: PartId, p: PartId) -> bool
 
 /// Whether a router can give a packet to a link that leads away by this way.
 fn can_send(router: &Router, way: Port) -> bool
-    ensures { result ≡ is_some (router_departs way router.now) }
+    ensures { result ≡ is_some (router_departs way router.now.now) }
 {
     router.counter() < i64::MAX && router.offer(way).is_some()
 }
 
 /// Whether a router can take this packet from a link that leads to it from this side.
 fn can_receive(router: &Router, side: Port, packet: &Packet) -> bool
-    ensures { result ≡ is_some (router_accepts side packet.now router.now) }
+    ensures { result ≡ is_some (router_accepts router.now.plan side packet.now router.now.now) }
 {
     i64::MIN < router.counter() && router.accepts(side, packet)
 }
 
 /// A packet goes from a router to the link, which leads away by this way.
 fn depart_router<L: Link>(router: &mut Router, link: &mut L, p: PartId, l: PartId, way: Port) -> Did
-    requires { way ≡ link_way router.old.shape l.0 }
+    requires { way ≡ link_way router.old.plan.shape l.0 }
     ensures { DoesBoth (moved result) (meets (event.Depart p l) (RouterV router.old) (LinkV (L.content link.old))) (RouterV router.old) (LinkV (L.content link.old)) (RouterV router.new) (LinkV (L.content link.new)) }
 {
     if router.counter() == i64::MAX {
@@ -135,7 +135,7 @@ fn arrive_router<L: Link>(
     p: PartId,
     side: Port,
 ) -> Did
-    requires { side ≡ link_side router.old.shape l.0 }
+    requires { side ≡ link_side router.old.plan.shape l.0 }
     ensures { DoesBoth (moved result) (meets (event.Arrive l p) (RouterV router.old) (LinkV (L.content link.old))) (RouterV router.old) (LinkV (L.content link.old)) (RouterV router.new) (LinkV (L.content link.new)) }
 {
     let Some(packet) = link.front() else {
@@ -151,7 +151,7 @@ fn arrive_router<L: Link>(
 
 /// Whether a packet can go from a router to the link, which leads away by this way.
 fn can_depart_router<L: Link>(router: &Router, link: &L, p: PartId, l: PartId, way: Port) -> bool
-    requires { way ≡ link_way router.now.shape l.0 }
+    requires { way ≡ link_way router.now.plan.shape l.0 }
     ensures { result ≡ is_some (meets (event.Depart p l) (RouterV router.now) (LinkV (L.content link.now))) }
 {
     can_send(router, way) && link.len() < link.capacity()
@@ -159,7 +159,7 @@ fn can_depart_router<L: Link>(router: &Router, link: &L, p: PartId, l: PartId, w
 
 /// Whether a link's first packet can go to a router, to which the link leads from this side.
 fn can_arrive_router<L: Link>(router: &Router, link: &L, l: PartId, p: PartId, side: Port) -> bool
-    requires { side ≡ link_side router.now.shape l.0 }
+    requires { side ≡ link_side router.now.plan.shape l.0 }
     ensures { result ≡ is_some (meets (event.Arrive l p) (RouterV router.now) (LinkV (L.content link.now))) }
 {
     match link.front() {

@@ -6,10 +6,12 @@ ghost use Rattle.tn_base.specs.Does.{Does};
 ghost use Rattle.tn_rows.specs.Ends.{bad_key_on, ended_on, is_over};
 ghost use Rattle.tn_rows.specs.Events.{after, carried};
 ghost use Rattle.tn_rows.specs.PartView.{AbsentV, LinkV, RouterV, TileV, link_of, router_of, tile_of};
-ghost use Rattle.tn_router.specs.Rows.{none_waits as none_waits_out, route_row};
+ghost use Rattle.tn_node.specs.PortRows.{all_empty};
+ghost use Rattle.tn_router.specs.RouterView.{now_by as router_now_by};
+ghost use Rattle.tn_router.specs.Rows.{route_row};
 ghost use Rattle.tn_stamp.specs.declared.entry.Crossing.TheVariants as crossing;
 ghost use Rattle.tn_tile.specs.Rows.{turn_row};
-ghost use Rattle.tn_tile.specs.Still.{none_waits};
+ghost use Rattle.tn_tile.specs.TileView.{now_by};
 ghost use Rattle.tn_tile.specs.Turns.{moved};
 ghost use Rattle.tn_world.specs.Plays.{TurnsPart, offers};
 
@@ -269,30 +271,33 @@ impl<L: Link> Part<L> {
 
 /// Whether a packet waits in a tile for a way out.
 fn offers_any(tile: &Tile) -> bool
-    ensures { result ≡ not (none_waits tile.now.transit) }
+    ensures { result ≡ not (all_empty tile.now.now.node.out) }
 {
     !(tile.buffer(Port::East).is_none()
         && tile.buffer(Port::West).is_none()
         && tile.buffer(Port::South).is_none()
         && tile.buffer(Port::North).is_none()
-        && tile.buffer(Port::Up).is_none())
+        && tile.buffer(Port::Up).is_none()
+        && tile.buffer(Port::Down).is_none()
+        && tile.buffer(Port::HostPort).is_none())
 }
 
 /// Whether a packet waits in a router for a way out.
 fn sends_any(router: &Router) -> bool
-    ensures { result ≡ not (none_waits_out router.now.out) }
+    ensures { result ≡ not (all_empty router.now.now.node.out) }
 {
     !(router.buffer(Port::East).is_none()
         && router.buffer(Port::West).is_none()
         && router.buffer(Port::South).is_none()
         && router.buffer(Port::North).is_none()
+        && router.buffer(Port::Up).is_none()
         && router.buffer(Port::Down).is_none()
         && router.buffer(Port::HostPort).is_none())
 }
 
 /// A Route, where the router can make one. The bad key that it finds stays noted there.
 fn did_route(router: &mut Router) -> Did
-    ensures { Does (moved result) (route_row router.old) router.old router.new }
+    ensures { Does (moved result) (router_now_by router.old (route_row router.old.plan router.old.now)) router.old router.new }
 {
     match router.route() {
         Routed::Moved => Did::Moved,
@@ -303,7 +308,7 @@ fn did_route(router: &mut Router) -> Did
 
 /// A turn of so many steps, made on a copy of the tile.
 fn turn_tile(tile: &mut Tile, t: ThreadId, n: u32) -> Result<Did, AllocError>
-    ensures { MatchResult result (λ did. Does (moved did) (turn_row t.0 n tile.old) tile.old tile.new) (λ _. tile.new ≡ tile.old) }
+    ensures { MatchResult result (λ did. Does (moved did) (now_by tile.old (turn_row tile.old.plan t.0 n tile.old.now)) tile.old tile.new) (λ _. tile.new ≡ tile.old) }
 {
     let most = tile.shape().numbers().turn;
     if !tile.is_here(t) || n == 0 || n > most || !tile.counts() {
@@ -317,8 +322,8 @@ fn turn_tile(tile: &mut Tile, t: ThreadId, n: u32) -> Result<Did, AllocError>
     Ok(Did::Moved)
 }
 
-/// How a run ends with a turn of this thread after which the tile is this one, where that turn is final: the thread
-/// trapped, or has used its fuel.
+/// The outcome of a run whose last event is a turn of `t` that left the tile so: the thread trapped, or has used its fuel. None
+/// if that turn was not final.
 fn end_on(tile: &Tile, t: ThreadId) -> Option<Outcome>
     ensures { result ≡ ended_on t (TileV tile.now) }
 {

@@ -17,9 +17,9 @@ use tn_tile::step::Turned;
 const MOST_TRIES: u32 = 1 << 20;
 
 /// Makes events, longest turns among them, round the parts, to a final event, to none enabled, or to `limit` events.
-/// Where memory is refused, the machine stands after some of these events.
+/// If memory runs out, the machine has made the first few of these events and nothing else.
 pub fn play<L: Link>(world: &mut World<L>, limit: u64) -> Result<Vec<Event>, AllocError>
-    ensures { MatchResult result (λ history. Played limit world.old history.items world.new) (λ _. Reached world.old world.new) }
+    ensures { MatchResult result (λ history. Played limit world.old history.items world.new) (λ _. Reached limit world.old world.new) }
 {
     let alloc = world.parts.allocator().clone()?;
     let mut agenda = Agenda::of(alloc, &world.shape, &world.sites)?;

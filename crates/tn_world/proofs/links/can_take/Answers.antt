@@ -7,4 +7,4 @@ use Rattle.tn_world.proofs.links.can_take.Goals as goal
 pub returns-then-counter-gtminus9223372036854775808 : goal.returns-then-counter-gtminus9223372036854775808
 returns-then-counter-gtminus9223372036854775808 c =
     let fits : FitsSigned w64 c.counter.result = search rules in
-    takes c.args.tile.now c.args.packet.now c.counter.result c.accepts.result (sym c.counts.ensures ∙ c.if-not-counts.false) c.counter.ensures fits c.if-counter-gtminus9223372036854775808.true c.accepts.ensures
+    takes c.args.tile.now.plan c.args.tile.now.now c.args.packet.now c.counter.result c.accepts.result (sym c.counts.ensures ∙ c.if-not-counts.false) c.counter.ensures fits c.if-counter-gtminus9223372036854775808.true c.accepts.ensures

@@ -11,7 +11,8 @@ returns-in_default g c =
 pub returns-in_err-push : goal.returns-in_err-push
 returns-in_err-push g c =
     let made = c.in-Some.ensures in
-    on_error c.from_residual-in_err-push.result _ _ c.from_residual-in_err-push.ensures.0 (reached c.args.world.now c.loop-world.history.items c.loop-world.world c.next_move.new.world c.in-Some.event c.loop-world.invariant.0 made)
+    let less : length c.loop-world.history.items < c.args.limit = omega (arith, c.loop-world-test.true, c.len.ensures, c.loop-world.history.ok) in
+    on_error c.from_residual-in_err-push.result _ _ c.from_residual-in_err-push.ensures.0 (reached c.args.limit c.args.world.now c.loop-world.history.items c.loop-world.world c.next_move.new.world c.in-Some.event c.loop-world.invariant.0 less made)
 
 pub returns-then-is_some : goal.returns-then-is_some
 returns-then-is_some g c =
