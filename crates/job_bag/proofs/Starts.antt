@@ -24,8 +24,8 @@ use Rattle.job_load.specs.Laws.{IsMemory}
 use Rattle.job_load.specs.Laws.{IsStart as IsJobStart}
 use Rattle.job_load.specs.Start.{by_address, part_start, start_of, thread_start}
 use Rattle.job_load.specs.Tables.{table_for, tables_of as job_tables}
-use Rattle.tn_bag.specs.Law.{IsStart, StartsSo}
-use Rattle.tn_bag.specs.Tiles.{beats_on, tables_of}
+use Rattle.tn_letters.specs.Law.{IsStart, StartsSo}
+use Rattle.tn_letters.specs.Tiles.{beats_on, tables_of}
 
 -- each thread's memory is as large as the machine says
 abbrev pub IsSized : Job → Type 0

@@ -7,7 +7,7 @@ ghost use Rattle.tn_rows.specs.Runs.{Run};
 ghost use Rattle.tn_rows.specs.WorldView.{WorldView};
 ghost use Rattle.job_text.specs.declared.job.Job.{Job};
 ghost use Rattle.job_load.specs.Loaded.{loaded};
-ghost use Rattle.tn_bag.specs.Law.{IsBagRun, IsStart};
+ghost use Rattle.tn_letters.specs.Law.{IsBagRun, IsStart};
 
 use job_load::laws::{law_memory, law_start};
 use tn_bag::laws::law_runs;

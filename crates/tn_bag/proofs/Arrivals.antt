@@ -19,8 +19,8 @@ use Rattle.tn_rows.specs.Events.{after, carried, happened, happened_at, met_by, 
 use Rattle.tn_rows.specs.PartView.{PartView, TileV, RouterV, LinkV, AbsentV, tile_of}
 use Rattle.tn_rows.specs.Places.{leads_to, two_if}
 use Rattle.tn_rows.specs.WorldView.{WorldView}
-use Rattle.tn_bag.specs.Steps.{arrival_steps, delivery_steps, event_steps, steps_at}
-use Rattle.tn_bag.specs.Tiles.{reach_of}
+use Rattle.tn_letters.specs.Steps.{arrival_steps, delivery_steps, event_steps, steps_at}
+use Rattle.tn_letters.specs.Tiles.{reach_of}
 
 -- ---- a packet that arrives
 

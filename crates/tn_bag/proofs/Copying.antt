@@ -24,8 +24,8 @@ use Rattle.tn_keys.specs.Tables.{Table, board_place, joined, table_of}
 use Rattle.tn_router.specs.RouterView.{RouterView}
 use Rattle.tn_rows.specs.PartView.{PartView, TileV, RouterV, LinkV, AbsentV, router_of}
 use Rattle.tn_rows.specs.WorldView.{WorldView}
-use Rattle.tn_bag.specs.Letters.{letter, letter_for, letters_from}
-use Rattle.tn_bag.specs.Tiles.{beats_on, reach_of, tables_of}
+use Rattle.tn_letters.specs.Letters.{letter, letter_for, letters_from}
+use Rattle.tn_letters.specs.Tiles.{beats_on, reach_of, tables_of}
 
 -- the letter of a bit of a mask
 abbrev pub masked_at : ℕ → ℕ → ℕ → ℕ → List ℕ → ℕ → List Letter

@@ -16,16 +16,16 @@ use Rattle.tn_slots.specs.Slot.{is_free}
 use Rattle.tn_slots.proofs.Kept.{free_masks}
 use Rattle.tn_keys.specs.Copies.{only_if}
 use Rattle.tn_keys.specs.Reach.{Reach}
-use Rattle.tn_bag.specs.Letters.{letter}
+use Rattle.tn_letters.specs.Letters.{letter}
 use Rattle.tn_tile.specs.Kept.{IsPacket, WellShaped}
 use Rattle.tn_tile.specs.Rows.{is_here, sender_of}
 use Rattle.tn_tile.specs.Step.{pending_at}
 use Rattle.tn_tile.specs.TileView.{TileView}
 use Rattle.tn_base.specs.declared.message.Letter.{Letter}
-use Rattle.tn_bag.specs.declared.place.Place.{Place}
-use Rattle.tn_bag.specs.declared.place.Place.TheVariants as place
-use Rattle.tn_bag.specs.Standing.{owed_standing, owed_to, pending_of, waiting}
-use Rattle.tn_bag.specs.Tiles.{letter_in, sender_at}
+use Rattle.tn_letters.specs.declared.place.Place.{Place}
+use Rattle.tn_letters.specs.declared.place.Place.TheVariants as place
+use Rattle.tn_letters.specs.Standing.{owed_standing, owed_to, pending_of, waiting}
+use Rattle.tn_letters.specs.Tiles.{letter_in, sender_at}
 
 -- a thread that is named by its tile and its place is on the tile, at that place
 pub named_here : (v : TileView) (k a : ℕ) → WithinLimits v.shape → WellShaped v → k < tile_threads v.shape → a ≡ in_tile v.shape v.tile k → IsTrue (is_here a v) × (place_in_tile v.shape a ≡ k)

@@ -29,17 +29,17 @@ use Rattle.tn_tile.specs.Step.{can_step, no_thread, sight_at, step_at_place, ste
 use Rattle.tn_tile.specs.Turns.{StepsUpTo}
 use Rattle.tn_tile.specs.TileView.{TileView}
 use Rattle.tn_tile.proofs.Steps.{stepped_shape}
-use Rattle.tn_bag.specs.declared.place.Place.{Place}
-use Rattle.tn_bag.specs.declared.steps.BagStep.{BagStep}
-use Rattle.tn_bag.specs.declared.steps.BagStep.TheVariants as bag
-use Rattle.tn_bag.specs.Letters.{letter}
+use Rattle.tn_letters.specs.declared.place.Place.{Place}
+use Rattle.tn_letters.specs.declared.steps.BagStep.{BagStep}
+use Rattle.tn_letters.specs.declared.steps.BagStep.TheVariants as bag
+use Rattle.tn_letters.specs.Letters.{letter}
 use Rattle.tn_keys.specs.Reach.{Reach}
-use Rattle.tn_bag.specs.Standing.{crossing_at}
-use Rattle.tn_bag.specs.Steps.{thread_step, turn_steps}
-use Rattle.tn_bag.specs.Tiles.{letter_in, sender_at}
+use Rattle.tn_letters.specs.Standing.{crossing_at}
+use Rattle.tn_letters.specs.Steps.{thread_step, turn_steps}
+use Rattle.tn_letters.specs.Tiles.{letter_in, sender_at}
 use Rattle.tn_bag.proofs.Made.{message_some}
-use Rattle.tn_bag.proofs.Walks.{acted_tile}
-use Rattle.tn_bag.proofs.Simulate.{next, op_fits}
+use Rattle.tn_letters.proofs.Walks.{acted_tile}
+use Rattle.tn_letters.proofs.Simulate.{next, op_fits}
 
 -- the letters at each place of a link
 abbrev pub crossings : ShapeNumbers → Reach → ℕ → LinkView → ℕ → List (Place × Letter)

@@ -24,13 +24,13 @@ use Rattle.tn_router.specs.Rest.{beats_from, rest_by}
 use Rattle.tn_router.specs.RouterView.{RouterView}
 use Rattle.tn_rows.specs.PartView.{PartView, TileV, RouterV, LinkV, AbsentV, router_of}
 use Rattle.tn_rows.specs.WorldView.{WorldView}
-use Rattle.tn_bag.specs.declared.place.Place.{Place}
-use Rattle.tn_bag.specs.declared.place.Place.TheVariants as place
-use Rattle.tn_bag.specs.Letters.{letter_for, letters_from, letters_to, link_board}
-use Rattle.tn_bag.specs.Standing.{copied, crossing_at, leaving_by, part_standing, router_standing, works_from}
-use Rattle.tn_bag.specs.Tiles.{reach_of, tables_of}
-use Rattle.tn_bag.proofs.PartKinds.{RouterPart, router_part_is}
-use Rattle.tn_bag.proofs.Starts.{board_there}
+use Rattle.tn_letters.specs.declared.place.Place.{Place}
+use Rattle.tn_letters.specs.declared.place.Place.TheVariants as place
+use Rattle.tn_letters.specs.Letters.{letter_for, letters_from, letters_to, link_board}
+use Rattle.tn_letters.specs.Standing.{copied, crossing_at, leaving_by, part_standing, router_standing, works_from}
+use Rattle.tn_letters.specs.Tiles.{reach_of, tables_of}
+use Rattle.tn_letters.proofs.PartKinds.{RouterPart, router_part_is}
+use Rattle.tn_letters.proofs.Starts.{board_there}
 
 -- the board of a router that is a part
 pub router_board : (n : ShapeNumbers) (p : ℕ) (b : Board) → kind_of n p ≡ kind.Router b → WithinLimits n → (b.x < 4) × (b.y < 4)

@@ -6,9 +6,9 @@ ghost use Rattle.tn_keys.specs.Copies.{masked_copies};
 ghost use Rattle.tn_keys.specs.Reach.{reach_by, walk};
 ghost use Rattle.tn_keys.specs.Tables.{joined, records_of, table_of};
 ghost use Rattle.tn_rows.specs.PartView.{router_of};
-ghost use Rattle.tn_bag.specs.Letters.{board_of, letter, letter_for, letters_from, link_board};
+ghost use Rattle.tn_letters.specs.Letters.{board_of, letter, letter_for, letters_from, link_board};
 ghost use Rattle.tn_base.specs.Parts.{kind_of};
-ghost use Rattle.tn_bag.specs.Tiles.{reach_of, tables_of};
+ghost use Rattle.tn_letters.specs.Tiles.{reach_of, tables_of};
 ghost use Rattle.tn_base.specs.Message.{has_packet};
 
 use crate::letters::plain_letters;

@@ -3,7 +3,7 @@
 ghost use Rattle.std.specs.Prelude.{◌≡◌, ◌∷◌, [], IfOk, IsTrue};
 ghost use Rattle.tn_base.specs.Address.{has_tile};
 ghost use Rattle.tn_base.specs.Message.{has_packet};
-ghost use Rattle.tn_bag.specs.Letters.{IsPlain, masked_letters};
+ghost use Rattle.tn_letters.specs.Letters.{IsPlain, masked_letters};
 
 use std::alloc::{AllocError, Global};
 use tn_base::ids::TileId;

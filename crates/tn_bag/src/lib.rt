@@ -1,14 +1,10 @@
-//! What a machine means: threads that send and receive letters, and one bag of the letters in flight.
-//!
-//! The bag machine stands in `specs/Machine.antt`. Read `specs/State.antt` before it, then `specs/Law.antt`.
+//! The letters of a machine in their places, and the steps of the bag machine that a run is. `tn_letters` defines both.
 #![tactic(auto)]
 
 mod keyed;
 pub mod laws;
 mod letters;
-pub mod place;
 pub mod places;
 mod router;
 pub mod spell;
-pub mod steps;
 mod turns;

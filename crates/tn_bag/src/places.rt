@@ -3,11 +3,11 @@
 ghost use Rattle.std.specs.Prelude.{◌≡◌, ◌<◌, ◌++◌, IfOk, IsTrue, OnOk, MatchOption, length, map, option_copied};
 ghost use Rattle.tn_base.specs.Address.{tile_threads};
 ghost use Rattle.tn_base.specs.Message.{has_packet};
-ghost use Rattle.tn_bag.specs.Standing.{crossing_at, link_standing, owed_standing, part_standing, pending_standing, slots_standing, standing, tile_standing, transit_standing, waiting};
-ghost use Rattle.tn_bag.specs.Tiles.{reach_of};
+ghost use Rattle.tn_letters.specs.Standing.{crossing_at, link_standing, owed_standing, part_standing, pending_standing, slots_standing, standing, tile_standing, transit_standing, waiting};
+ghost use Rattle.tn_letters.specs.Tiles.{reach_of};
 
 use crate::keyed::{board_of, letters_at, link_board};
-use crate::place::Place;
+use tn_letters::place::Place;
 use crate::router::push_router;
 use std::alloc::{AllocError, Global};
 use tn_base::ids::PartId;

@@ -7,14 +7,14 @@ ghost use Rattle.tn_router.specs.Kept.{FitsWork, WellShaped, is_keyed};
 ghost use Rattle.tn_router.specs.Left.{board_on, copies_left, copies_out, copies_to};
 ghost use Rattle.tn_router.specs.Places.{buffer_at, work_at};
 ghost use Rattle.tn_router.specs.Rest.{rest_by};
-ghost use Rattle.tn_bag.specs.Letters.{letter_for};
-ghost use Rattle.tn_bag.specs.Standing.{leaving_by, out_standing, process_standing, router_standing, works_from};
-ghost use Rattle.tn_bag.specs.Tiles.{reach_of};
+ghost use Rattle.tn_letters.specs.Letters.{letter_for};
+ghost use Rattle.tn_letters.specs.Standing.{leaving_by, out_standing, process_standing, router_standing, works_from};
+ghost use Rattle.tn_letters.specs.Tiles.{reach_of};
 ghost use Rattle.std.specs.Prelude.{ℕ, List};
 
 use crate::keyed::{joined_beats, push_key, push_masked, push_records};
 use crate::letters::letter_for;
-use crate::place::Place;
+use tn_letters::place::Place;
 use crate::places::push_letters;
 use std::alloc::{AllocError, Global};
 use tn_base::ids::{Board, PartId};

@@ -7,11 +7,11 @@ ghost use Rattle.tn_slots.specs.Pool.{message_at, queue_at};
 ghost use Rattle.tn_slots.specs.Queues.{first_of};
 ghost use Rattle.tn_tile.specs.Rows.{is_here, turn_row};
 ghost use Rattle.tn_tile.specs.Step.{can_step};
-ghost use Rattle.tn_bag.specs.declared.steps.BagStep.TheVariants as bag;
-ghost use Rattle.tn_bag.specs.Steps.{first_letter, queued, seen_at, step_by, thread_step, turn_steps};
-ghost use Rattle.tn_bag.specs.Tiles.{letter_in};
+ghost use Rattle.tn_letters.specs.declared.steps.BagStep.TheVariants as bag;
+ghost use Rattle.tn_letters.specs.Steps.{first_letter, queued, seen_at, step_by, thread_step, turn_steps};
+ghost use Rattle.tn_letters.specs.Tiles.{letter_in};
 
-use crate::steps::{BagStep, Seen};
+use tn_letters::steps::{BagStep, Seen};
 use std::alloc::AllocError;
 use tn_base::ids::ThreadId;
 use tn_base::message::Letter;

@@ -7,7 +7,7 @@ use Rattle.std.specs.List.{slice_get}
 use Rattle.job_load.specs.declared.fault.LoadFault.{LoadFault}
 use Rattle.job_load.specs.declared.fault.LoadStop.{LoadStop}
 use Rattle.job_load.specs.Gives.{Gives}
-use Rattle.tn_bag.specs.Law.{IsStart}
+use Rattle.tn_letters.specs.Law.{IsStart}
 use Rattle.tn_base.specs.declared.event.Event.{Event}
 use Rattle.tn_rows.specs.Ends.{final_after, final_of, last_of}
 use Rattle.tn_rows.specs.Runs.{LongRun, Run}

@@ -8,7 +8,7 @@ use Rattle.job_load.specs.Names.{name_of_text}
 use Rattle.job_text.specs.declared.job.Job.{Job}
 use Rattle.job_text.specs.declared.job.JobFault.{JobFault}
 use Rattle.job_text.specs.Text.{job_of}
-use Rattle.tn_bag.specs.Law.{IsBagRun}
+use Rattle.tn_letters.specs.Law.{IsBagRun}
 use Rattle.tn_base.specs.declared.event.Outcome.{Outcome}
 use Rattle.tn_rows.specs.Ends.{IsOutcome}
 use Rattle.tn_rows.specs.Runs.{Run}

@@ -1,6 +1,6 @@
 -- What is written.
 use Rattle.std.specs.Prelude.{ℕ, ◌+◌, ◌==◌, List, [], ◌++◌, ◌∷◌, codes, decimal, if◌then◌else◌}
-use Rattle.tn_bag.specs.Law.{dropped_in}
+use Rattle.tn_letters.specs.Law.{dropped_in}
 use Rattle.tn_base.specs.declared.event.Outcome.{Outcome}
 use Rattle.tn_base.specs.declared.event.Trap.{Trap}
 use Rattle.tn_base.specs.declared.event.Trap.TheVariants.{BadInstr, BadFetch, Misaligned, BadAddress, BadCsr, BadDest, SendBusy, RecvEmpty, BadFree, Environment, BadPin, BadLocalKey}

@@ -1,7 +1,7 @@
 //! From an input to its answer.
 ghost use Rattle.std.specs.Prelude.{⊤, ◌≡◌, ◌≤◌, IfOk, MatchOption, length, None, []};
 ghost use Rattle.job_load.specs.Gives.{Gives};
-ghost use Rattle.tn_bag.specs.Law.{IsStart};
+ghost use Rattle.tn_letters.specs.Law.{IsStart};
 ghost use Rattle.tn_rows.specs.Ends.{IsOutcome, final_after, last_of};
 ghost use Rattle.tn_rows.specs.Events.{Rests};
 ghost use Rattle.tn_run.specs.Answer.{IsAnswer, IsRunOf, machine_of};

@@ -1,6 +1,6 @@
 //! The lines that a run writes.
 ghost use Rattle.std.specs.Prelude.{◌≡◌, ◌++◌, IfOk, OnOk, codes, sum_by};
-ghost use Rattle.tn_bag.specs.Law.{dropped_on};
+ghost use Rattle.tn_letters.specs.Law.{dropped_on};
 ghost use Rattle.tn_text.specs.Hex.{hex_word_text};
 ghost use Rattle.tn_run.specs.Report.{dropped_text, exit_text, exits_from, exits_text, outcome_text, part_exits, refusal_text, report_text, trap_text};
 

@@ -1,7 +1,7 @@
 use Rattle.std.proofs.Common.{rules, ◌∙◌, ◌≡◌, ◌++◌, map, subst}
 use Rattle.std.specs.Prelude.{OnOk}
-use Rattle.tn_bag.specs.Letters.{letter_for}
-use Rattle.tn_bag.specs.Tiles.{tables_of}
+use Rattle.tn_letters.specs.Letters.{letter_for}
+use Rattle.tn_letters.specs.Tiles.{tables_of}
 use Rattle.tn_bag.proofs.Copying.{no_keys, one_key}
 use Rattle.tn_bag.proofs.keyed.+reach.Goals as goal
 

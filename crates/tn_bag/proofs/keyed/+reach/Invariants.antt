@@ -1,7 +1,7 @@
 use Rattle.std.proofs.Common.{◌≡◌, ◌++◌, ◌+◌, ◌*◌, map, drop}
 use Rattle.tn_keys.specs.Reach.{reach_by, walk}
-use Rattle.tn_bag.specs.Letters.{letter_for}
-use Rattle.tn_bag.specs.Tiles.{tables_of}
+use Rattle.tn_letters.specs.Letters.{letter_for}
+use Rattle.tn_letters.specs.Tiles.{tables_of}
 use Rattle.tn_bag.proofs.keyed.+reach.Given as goal
 
 abbrev pub decreases-push_key : goal.decreases-push_key

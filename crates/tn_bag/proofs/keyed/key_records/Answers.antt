@@ -1,7 +1,7 @@
 use Rattle.std.proofs.Common.{rules, ◌∙◌, ◌≡◌, ◌≢◌, sym, subst}
 use Rattle.std.specs.Prelude.{IfOk}
 use Rattle.tn_keys.specs.Tables.{table_of}
-use Rattle.tn_bag.specs.Tiles.{tables_of}
+use Rattle.tn_letters.specs.Tiles.{tables_of}
 use Rattle.tn_bag.proofs.Copying.{bad_none, found_key, no_table, past_key, some_table, within_key}
 use Rattle.tn_bag.proofs.keyed.key_records.Goals as goal
 use Rattle.tn_bag.proofs.keyed.key_records.Goals.{then-count-eq0-via-then-count-eq0, then-count-eq0-via-else-count-eq0+then-is_none}

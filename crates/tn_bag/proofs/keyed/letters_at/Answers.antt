@@ -1,7 +1,7 @@
 use Rattle.std.proofs.Common.{◌∙◌, ◌++◌, ap, map}
 use Rattle.tn_keys.specs.Reach.{reach_by}
-use Rattle.tn_bag.specs.Letters.{letter_for}
-use Rattle.tn_bag.specs.Tiles.{tables_of}
+use Rattle.tn_letters.specs.Letters.{letter_for}
+use Rattle.tn_letters.specs.Tiles.{tables_of}
 use Rattle.tn_bag.proofs.Copying.{key_letters}
 use Rattle.tn_bag.proofs.keyed.letters_at.Goals as goal
 

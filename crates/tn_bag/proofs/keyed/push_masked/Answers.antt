@@ -2,7 +2,7 @@ use Rattle.std.proofs.Common.{rules, ◌∙◌, ◌++◌, ◌∷◌, ◌+◌, �
 use Rattle.std.specs.Int.{bit_at}
 use Rattle.tn_base.specs.declared.message.Letter.{Letter}
 use Rattle.tn_base.specs.Bytes.{fronted}
-use Rattle.tn_bag.specs.Letters.{letter}
+use Rattle.tn_letters.specs.Letters.{letter}
 use Rattle.tn_bag.proofs.Copying.{masked_at, masked_letters_are}
 use Rattle.tn_bag.proofs.Loops.{bit_is, bit_not, more_no, more_yes}
 use Rattle.tn_bag.proofs.keyed.push_masked.Goals as goal

@@ -1,7 +1,7 @@
 use Rattle.std.proofs.Common.{◌≡◌, ◌++◌, map}
 use Rattle.tn_base.specs.Bytes.{fronted}
 use Rattle.tn_keys.specs.Copies.{masked_copies}
-use Rattle.tn_bag.specs.Letters.{letter_for}
+use Rattle.tn_letters.specs.Letters.{letter_for}
 use Rattle.tn_bag.proofs.Copying.{masked_at}
 use Rattle.tn_bag.proofs.Loops.{from_on}
 use Rattle.tn_bag.proofs.keyed.push_masked.Given as goal

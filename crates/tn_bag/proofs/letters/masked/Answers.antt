@@ -3,7 +3,7 @@ use Rattle.std.specs.Int.{bit_at}
 use Rattle.tn_base.specs.declared.message.Letter.{Letter}
 use Rattle.tn_base.specs.Address.{in_tile, tile_threads}
 use Rattle.tn_keys.specs.Copies.{only_if}
-use Rattle.tn_bag.specs.Letters.{letter}
+use Rattle.tn_letters.specs.Letters.{letter}
 use Rattle.tn_bag.proofs.Loops.{bit_is, bit_not, more_no, more_yes}
 use Rattle.tn_bag.proofs.letters.masked.Goals as goal
 use Rattle.tn_bag.proofs.letters.masked.Goals.{then-has+in_ok-push, else-has}

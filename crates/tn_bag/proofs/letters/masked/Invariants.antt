@@ -2,7 +2,7 @@ use Rattle.std.proofs.Common.{◌≡◌, ◌++◌, ◌%◌, ◌==◌}
 use Rattle.std.specs.Int.{bit_at}
 use Rattle.tn_base.specs.Address.{in_tile, tile_threads}
 use Rattle.tn_keys.specs.Copies.{only_if}
-use Rattle.tn_bag.specs.Letters.{letter, masked_letters}
+use Rattle.tn_letters.specs.Letters.{letter, masked_letters}
 use Rattle.tn_bag.proofs.Loops.{from_on}
 use Rattle.tn_bag.proofs.letters.masked.Given as goal
 

@@ -1,6 +1,6 @@
 use Rattle.std.proofs.Common.{rules, ◌∙◌, ◌++◌, ◌≤◌, ◌<◌, ap, length}
-use Rattle.tn_bag.specs.Standing.{crossing_at}
-use Rattle.tn_bag.specs.Tiles.{reach_of}
+use Rattle.tn_letters.specs.Standing.{crossing_at}
+use Rattle.tn_letters.specs.Tiles.{reach_of}
 use Rattle.tn_bag.proofs.Loops.{at_end, from_start, one_more}
 use Rattle.tn_bag.proofs.Spelled.{crossings}
 use Rattle.tn_bag.proofs.places.push_link.Goals as goal

@@ -5,9 +5,9 @@ use Rattle.tn_base.specs.Address.{in_tile, tile_threads}
 use Rattle.tn_slots.specs.declared.slot.Slot.{Slot}
 use Rattle.tn_slots.specs.Pool.{slot_at}
 use Rattle.tn_slots.specs.Slot.{empty_slot}
-use Rattle.tn_bag.specs.declared.place.Place.TheVariants as place
-use Rattle.tn_bag.specs.Standing.{owed_to}
-use Rattle.tn_bag.specs.Tiles.{letter_in}
+use Rattle.tn_letters.specs.declared.place.Place.TheVariants as place
+use Rattle.tn_letters.specs.Standing.{owed_to}
+use Rattle.tn_letters.specs.Tiles.{letter_in}
 use Rattle.tn_bag.proofs.Loops.{at_end, bit_is, bit_not, more_no, more_yes}
 use Rattle.tn_bag.proofs.Made.{none_owed, owed_made}
 use Rattle.tn_bag.proofs.places.push_owed.Goals as goal

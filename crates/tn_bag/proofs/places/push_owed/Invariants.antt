@@ -1,6 +1,6 @@
 use Rattle.std.proofs.Common.{◌≡◌, ◌++◌}
 use Rattle.tn_base.specs.Address.{tile_threads}
-use Rattle.tn_bag.specs.Standing.{owed_standing, owed_to}
+use Rattle.tn_letters.specs.Standing.{owed_standing, owed_to}
 use Rattle.tn_bag.proofs.Loops.{from_on}
 use Rattle.tn_bag.proofs.places.push_owed.Given as goal
 

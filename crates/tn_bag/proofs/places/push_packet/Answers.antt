@@ -2,10 +2,10 @@ use Rattle.std.proofs.Common.{◌∙◌, ◌≡◌, ◌++◌, Bor, List, Option,
 use Rattle.std.specs.Prelude.{OnOk, option_copied}
 use Rattle.tn_base.specs.declared.message.Letter.{Letter}
 use Rattle.tn_base.specs.declared.message.Packet.{Packet}
-use Rattle.tn_bag.specs.declared.place.Place.{Place}
-use Rattle.tn_bag.specs.Letters.{board_of, letters_from}
-use Rattle.tn_bag.specs.Standing.{waiting}
-use Rattle.tn_bag.specs.Tiles.{reach_of}
+use Rattle.tn_letters.specs.declared.place.Place.{Place}
+use Rattle.tn_letters.specs.Letters.{board_of, letters_from}
+use Rattle.tn_letters.specs.Standing.{waiting}
+use Rattle.tn_letters.specs.Tiles.{reach_of}
 use Rattle.tn_bag.proofs.places.push_packet.Goals as goal
 
 pub returns : goal.returns

@@ -2,8 +2,8 @@ use Rattle.std.proofs.Common.{◌∙◌, ◌≡◌, ◌++◌, Bor, List, Option,
 use Rattle.std.specs.Prelude.{OnOk, option_copied}
 use Rattle.tn_base.specs.declared.message.Letter.{Letter}
 use Rattle.tn_router.specs.RouterView.{RouterView}
-use Rattle.tn_bag.specs.declared.place.Place.{Place}
-use Rattle.tn_bag.specs.Tiles.{reach_of}
+use Rattle.tn_letters.specs.declared.place.Place.{Place}
+use Rattle.tn_letters.specs.Tiles.{reach_of}
 use Rattle.tn_bag.proofs.Waits.{router_letters}
 use Rattle.tn_bag.proofs.places.push_part.Goals as goal
 

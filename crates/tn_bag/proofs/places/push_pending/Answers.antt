@@ -1,8 +1,8 @@
 use Rattle.std.proofs.Common.{rules, ◌∙◌, ◌++◌, ◌≤◌, ◌<◌, ap, subst}
 use Rattle.tn_base.specs.Address.{tile_threads}
 use Rattle.tn_base.specs.Shape.{WithinLimits}
-use Rattle.tn_bag.specs.Standing.{pending_of}
-use Rattle.tn_bag.specs.Tiles.{reach_of}
+use Rattle.tn_letters.specs.Standing.{pending_of}
+use Rattle.tn_letters.specs.Tiles.{reach_of}
 use Rattle.tn_bag.proofs.Loops.{at_end, from_start, one_more}
 use Rattle.tn_bag.proofs.Made.{here_read, packet_read, pending_read}
 use Rattle.tn_bag.proofs.places.push_pending.Goals as goal

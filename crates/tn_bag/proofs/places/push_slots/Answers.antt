@@ -1,5 +1,5 @@
 use Rattle.std.proofs.Common.{rules, ◌∙◌, ◌≤◌, ◌<◌, length}
-use Rattle.tn_bag.specs.Standing.{owed_standing}
+use Rattle.tn_letters.specs.Standing.{owed_standing}
 use Rattle.tn_bag.proofs.Loops.{at_end, one_more}
 use Rattle.tn_bag.proofs.places.push_slots.Goals as goal
 

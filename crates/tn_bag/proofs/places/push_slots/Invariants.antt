@@ -1,5 +1,5 @@
 use Rattle.std.proofs.Common.{◌≡◌, ◌++◌, length}
-use Rattle.tn_bag.specs.Standing.{owed_standing, slots_standing}
+use Rattle.tn_letters.specs.Standing.{owed_standing, slots_standing}
 use Rattle.tn_bag.proofs.Loops.{from_on}
 use Rattle.tn_bag.proofs.places.push_slots.Given as goal
 

@@ -1,7 +1,7 @@
 use Rattle.std.proofs.Common.{rules, ◌∙◌, ◌++◌, ◌≤◌, ◌<◌, ap}
 use Rattle.tn_base.specs.Parts.{part_count}
-use Rattle.tn_bag.specs.Standing.{part_standing, standing_on}
-use Rattle.tn_bag.specs.Tiles.{reach_of}
+use Rattle.tn_letters.specs.Standing.{part_standing, standing_on}
+use Rattle.tn_letters.specs.Tiles.{reach_of}
 use Rattle.tn_bag.proofs.Loops.{at_end, from_on, from_start, one_more}
 use Rattle.tn_bag.proofs.places.standing.Goals as goal
 

@@ -1,6 +1,6 @@
 use Rattle.std.proofs.Common.{◌≡◌, ◌++◌}
 use Rattle.tn_base.specs.Parts.{part_count}
-use Rattle.tn_bag.specs.Standing.{standing, standing_on}
+use Rattle.tn_letters.specs.Standing.{standing, standing_on}
 use Rattle.tn_bag.proofs.Loops.{from_on}
 use Rattle.tn_bag.proofs.places.standing.Given as goal
 

@@ -4,8 +4,8 @@ use Rattle.tn_router.specs.declared.work.Work.{Work}
 use Rattle.tn_router.specs.Kept.{is_keyed}
 use Rattle.tn_router.specs.Left.{reached}
 use Rattle.tn_router.specs.Rest.{rest_of}
-use Rattle.tn_bag.specs.Letters.{letter_for}
-use Rattle.tn_bag.specs.Tiles.{reach_of}
+use Rattle.tn_letters.specs.Letters.{letter_for}
+use Rattle.tn_letters.specs.Tiles.{reach_of}
 use Rattle.tn_bag.proofs.Waits.{from_none, walked}
 use Rattle.tn_bag.proofs.router.letters_left.Goals as goal
 use Rattle.tn_bag.proofs.router.letters_left.Goals.{in-Key+in_ok-rest-in-Key+in_ok-push_records-in-Key, in-Thread+in_ok-push_whole-in-Thread}

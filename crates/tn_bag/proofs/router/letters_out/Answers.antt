@@ -2,8 +2,8 @@ use Rattle.std.proofs.Common.{rules, ◌∙◌, ◌≡◌, ap, false, refl, sym}
 use Rattle.tn_keys.specs.Copies.{led, onto}
 use Rattle.tn_router.specs.Kept.{is_keyed}
 use Rattle.tn_router.specs.Left.{board_on, reached}
-use Rattle.tn_bag.specs.Letters.{letter_for}
-use Rattle.tn_bag.specs.Tiles.{reach_of}
+use Rattle.tn_letters.specs.Letters.{letter_for}
+use Rattle.tn_letters.specs.Tiles.{reach_of}
 use Rattle.tn_bag.proofs.Waits.{from_none, led_off, led_on}
 use Rattle.tn_bag.proofs.router.letters_out.Goals as goal
 use Rattle.tn_bag.proofs.router.letters_out.Goals.{in-Key+in-Some+in_ok-push_key-in-Key, in-Key+in_default, in-Thread+in_ok-push_whole-in-Thread}

@@ -3,8 +3,8 @@ use Rattle.std.specs.Prelude.{OnOk, option_copied}
 use Rattle.tn_base.specs.declared.message.Letter.{Letter}
 use Rattle.tn_base.specs.declared.message.Packet.{Packet}
 use Rattle.tn_router.specs.Places.{buffer_at}
-use Rattle.tn_bag.specs.declared.place.Place.{Place}
-use Rattle.tn_bag.specs.Tiles.{reach_of}
+use Rattle.tn_letters.specs.declared.place.Place.{Place}
+use Rattle.tn_letters.specs.Tiles.{reach_of}
 use Rattle.tn_bag.proofs.Waits.{leaving_letters}
 use Rattle.tn_bag.proofs.router.push_leaving.Goals as goal
 

@@ -4,8 +4,8 @@ use Rattle.tn_base.specs.declared.message.Letter.{Letter}
 use Rattle.tn_base.specs.declared.message.Packet.{Packet}
 use Rattle.tn_router.specs.declared.work.Work.{Work}
 use Rattle.tn_router.specs.Places.{work_at}
-use Rattle.tn_bag.specs.declared.place.Place.{Place}
-use Rattle.tn_bag.specs.Tiles.{reach_of}
+use Rattle.tn_letters.specs.declared.place.Place.{Place}
+use Rattle.tn_letters.specs.Tiles.{reach_of}
 use Rattle.tn_bag.proofs.Waits.{work_letters}
 use Rattle.tn_bag.proofs.router.push_work.Goals as goal
 

@@ -1,7 +1,7 @@
 use Rattle.std.proofs.Common.{◌≡◌, ◌++◌, drop}
 use Rattle.tn_rows.specs.Runs.{Run}
 use Rattle.tn_rows.specs.WorldView.{WorldView}
-use Rattle.tn_bag.specs.Steps.{bag_of}
+use Rattle.tn_letters.specs.Steps.{bag_of}
 use Rattle.tn_bag.proofs.spell.bag_of.Given as goal
 
 abbrev pub invariant-loop-event : goal.invariant-loop-event

@@ -1,8 +1,8 @@
 use Rattle.std.proofs.Common.{◌∙◌, ◌++◌, ap, sym, is_some}
 use Rattle.std.specs.Prelude.{option_copied}
 use Rattle.tn_rows.specs.Events.{happened}
-use Rattle.tn_bag.specs.Steps.{event_steps}
-use Rattle.tn_bag.specs.Tiles.{reach_of}
+use Rattle.tn_letters.specs.Steps.{event_steps}
+use Rattle.tn_letters.specs.Tiles.{reach_of}
 use Rattle.tn_bag.proofs.Arrivals.{arrival_is, arrives, front_fits, on_ok}
 use Rattle.tn_bag.proofs.spell.push_event.Goals as goal
 

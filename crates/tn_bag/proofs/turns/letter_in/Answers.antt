@@ -1,7 +1,7 @@
 use Rattle.std.proofs.Common.{◌∙◌, ap, sym}
 use Rattle.std.specs.Prelude.{option_copied}
 use Rattle.tn_slots.specs.Pool.{message_at}
-use Rattle.tn_bag.specs.Letters.{letter}
+use Rattle.tn_letters.specs.Letters.{letter}
 use Rattle.tn_bag.proofs.Spelled.{letter_read}
 use Rattle.tn_bag.proofs.turns.letter_in.Goals as goal
 

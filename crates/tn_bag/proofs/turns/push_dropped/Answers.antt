@@ -3,7 +3,7 @@ use Rattle.tn_base.specs.Address.{place_in_tile}
 use Rattle.tn_slots.specs.Pool.{message_at, queue_at, taken}
 use Rattle.tn_slots.specs.Queues.{first_of}
 use Rattle.tn_slots.specs.WellKept.{WellKept}
-use Rattle.tn_bag.specs.Tiles.{letter_in}
+use Rattle.tn_letters.specs.Tiles.{letter_in}
 use Rattle.tn_bag.proofs.Spelled.{first_left, next_left, one_dropped, place_in, queued_used, taken_queue, same_some}
 use Rattle.tn_bag.proofs.turns.push_dropped.Goals as goal
 

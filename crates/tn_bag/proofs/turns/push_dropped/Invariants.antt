@@ -1,9 +1,9 @@
 use Rattle.std.proofs.Common.{◌≡◌, ◌++◌, map}
 use Rattle.tn_base.specs.Address.{place_in_tile}
 use Rattle.tn_slots.specs.Pool.{queue_at}
-use Rattle.tn_bag.specs.declared.steps.BagStep.TheVariants as bag
-use Rattle.tn_bag.specs.Steps.{queued}
-use Rattle.tn_bag.specs.Tiles.{letter_in}
+use Rattle.tn_letters.specs.declared.steps.BagStep.TheVariants as bag
+use Rattle.tn_letters.specs.Steps.{queued}
+use Rattle.tn_letters.specs.Tiles.{letter_in}
 use Rattle.tn_bag.proofs.Spelled.{QueueLeft}
 use Rattle.tn_bag.proofs.turns.push_dropped.Given as goal
 

@@ -1,6 +1,6 @@
 use Rattle.std.proofs.Common.{◌≡◌, ◌++◌, ◌-◌}
 use Rattle.tn_base.specs.Address.{place_in_tile}
-use Rattle.tn_bag.specs.Steps.{turn_steps}
+use Rattle.tn_letters.specs.Steps.{turn_steps}
 use Rattle.tn_bag.proofs.Spelled.{TurnLeft}
 use Rattle.tn_bag.proofs.turns.push_turn.Given as goal
 

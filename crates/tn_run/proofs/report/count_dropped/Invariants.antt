@@ -1,5 +1,5 @@
 use Rattle.std.proofs.Common.{◌≡◌, ◌+◌, ◌*◌, ◌≤◌, ◌^◌, drop, sum_by}
-use Rattle.tn_bag.specs.Law.{dropped_on}
+use Rattle.tn_letters.specs.Law.{dropped_on}
 use Rattle.tn_run.proofs.report.count_dropped.Given as goal
 
 abbrev pub invariant-loop-part : goal.invariant-loop-part

@@ -1,5 +1,0 @@
-use Rattle.tn_bag.proofs.Starts.{bag_run}
-use Rattle.tn_bag.proofs.laws.law_runs.Goals as goal
-
-pub returns : goal.returns
-returns c = λ start history end s run. bag_run start history end s run

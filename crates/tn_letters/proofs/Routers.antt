@@ -1,0 +1,247 @@
+-- Events of routers: they move letters, and are no steps of the bag machine.
+use Rattle.std.proofs.Common.{ℕ, ◌+◌, ◌≡◌, ◌&&◌, Bool, true, false, cond, List, [], refl, sym, ◌∙◌, ap, subst, arith, Option, Some, None, MatchOption, is_none, is_some, option_map, unwrap_or, IsTrue, pos, ◌+ℤ◌}
+use Rattle.std.specs.Prelude.{◌||◌, not}
+use Rattle.std.proofs.lemmas.Bool.{and_parts}
+use Rattle.tn_base.specs.declared.event.Event.TheVariants as event
+use Rattle.tn_base.specs.declared.ids.Board.{Board}
+use Rattle.tn_base.specs.declared.ids.PartId.{PartId}
+use Rattle.tn_base.specs.declared.message.Letter.{Letter}
+use Rattle.tn_base.specs.declared.message.Packet.{Packet}
+use Rattle.tn_base.specs.declared.part.Kind.{Kind}
+use Rattle.tn_base.specs.declared.part.Kind.TheVariants as kind
+use Rattle.tn_base.specs.declared.port.Port.{Port}
+use Rattle.tn_base.specs.declared.port.Port.TheVariants as port
+use Rattle.tn_base.specs.declared.shape.ShapeNumbers.{ShapeNumbers}
+use Rattle.tn_base.specs.Message.{has_packet}
+use Rattle.tn_base.specs.Parts.{kind_of}
+use Rattle.tn_base.specs.Shape.{WithinLimits}
+use Rattle.tn_keys.specs.Accepted.{Accepted}
+use Rattle.tn_keys.specs.Reach.{reach}
+use Rattle.tn_keys.specs.Tables.{table_of}
+use Rattle.tn_link.specs.LinkRows.{front_of, put_in, take_from}
+use Rattle.tn_link.specs.LinkView.{LinkView}
+use Rattle.tn_router.specs.declared.moves.Move.{Move}
+use Rattle.tn_router.specs.Kept.{FitsWay, WellShaped, is_keyed, leads_on}
+use Rattle.tn_router.specs.Left.{board_on}
+use Rattle.tn_router.specs.Places.{buffer_at, has_side, with_buffer, with_work, work_at}
+use Rattle.tn_router.specs.Rest.{started}
+use Rattle.tn_router.specs.Rows.{accept_row, arrived, can_accept, carried as moved, depart_row, first_move, offered, route_row}
+use Rattle.tn_router.specs.RouterView.{RouterView}
+use Rattle.tn_router.proofs.Moved.{placed_fits}
+use Rattle.tn_router.proofs.Shaped.{accepts, carried_shaped, departs, gone_shaped, notes_shaped, work_shaped}
+use Rattle.tn_stamp.specs.declared.entry.Crossing.TheVariants as crossing
+use Rattle.tn_tile.proofs.Steps.{taken}
+use Rattle.tn_rows.specs.Events.{Met, met_by, met_with, with_both, with_part}
+use Rattle.tn_rows.specs.PartView.{RouterV, LinkV}
+use Rattle.tn_rows.specs.Places.{link_side, link_way}
+use Rattle.tn_rows.specs.SamePacket.{is_packet}
+use Rattle.tn_rows.specs.WorldView.{WorldView}
+use Rattle.tn_rows.proofs.Meeting.{mapped, met_rows}
+use Rattle.tn_letters.specs.Letters.{link_board}
+use Rattle.tn_letters.specs.State.{Program}
+use Rattle.tn_letters.specs.Tiles.{reach_of, tables_of}
+use Rattle.tn_letters.proofs.Becomes.{Becomes, becomes_reached, nothing}
+use Rattle.tn_letters.proofs.Copies.{out_weighs, started_weighs}
+use Rattle.tn_letters.proofs.Crossings.{home_put, home_take, put_more, take_less}
+use Rattle.tn_letters.proofs.Lift.{Good, GoodRouter, Homed, OnLink, OnRouter, StandsAt, leads_to_tile, part_on, stands_on}
+use Rattle.tn_letters.proofs.Links.{Shifted, Shifts, both_shifted, link_shifts, shifted, two_parts}
+use Rattle.tn_letters.proofs.Moves.{moves_so, outs_set, route_weighs, way_there, works_set, IsSide}
+use Rattle.tn_letters.proofs.Simulate.{Reached}
+use Rattle.tn_letters.proofs.Weights.{crossing_w, out_w, router_w, work_w}
+
+-- a machine in which letters moved and no thread did anything
+still_becomes : (w there : WorldView) → Shifted w there nothing nothing → Becomes w there []
+still_becomes w there s = record {
+  threads = s.threads;
+  held = λ b slot h. s.held b slot;
+  letters = λ f. let a = s.letters f in omega arith;
+  good = s.good;
+  program = s.program;
+  count = let c = s.count in omega arith;
+}
+
+pub still_reached : (got : ℕ → List Letter) (dropped : List Letter) (w there : WorldView) → Shifted w there nothing nothing → Reached got dropped w [] there
+still_reached got dropped w there s = becomes_reached got dropped w there [] (ap (λ (m : Program). m.shape) s.program) (still_becomes w there s) tt
+
+router_on : (w : WorldView) (p : ℕ) (v : RouterView) → Good w → OnRouter w p v → GoodRouter w.shape (tables_of w) v
+router_on w p v good on = part_on w p (RouterV v) good on
+
+still_router : (k : Kind) (v new : RouterView) → new.board ≡ v.board → StandsAt k (RouterV v) → StandsAt k (RouterV new)
+still_router kind.Host v new e h = absurd h
+still_router (kind.Tile tile) v new e h = absurd h
+still_router (kind.Router board) v new e h = e ∙ h
+still_router (kind.Link from onto) v new e h = absurd h
+still_router kind.Detector v new e h = absurd h
+
+router_shifts : (w : WorldView) (p : ℕ) (v new : RouterView) (came gone : (Letter → ℕ) → ℕ) → Good w → OnRouter w p v → new.shape ≡ v.shape → new.board ≡ v.board → new.beats ≡ v.beats → WellShaped new →
+    ((f : Letter → ℕ) → came f + router_w f (reach_of w) v ≡ gone f + router_w f (reach_of w) new) → Shifts w p (RouterV v) (RouterV new) came gone
+router_shifts w p v new came gone good on shape board beats shaped weighs =
+    let t = router_on w p v good on in
+    record {
+      on = on;
+      was = record { tile = refl; dropped = refl };
+      is = record { tile = refl; dropped = refl };
+      beats = beats;
+      stands = still_router (kind_of w.shape p) v new board (stands_on w p (RouterV v) good on);
+      good = record { shape = shape ∙ t.shape; shaped = shaped; beats = beats ∙ (t.beats ∙ ap (table_of w.shape (tables_of w)) (sym board)) };
+      weighs = weighs;
+    }
+
+-- ---- a Route
+
+did_move : (v new : RouterView) (o : Option Move) → option_map (moved v) o ≡ Some new → (m : Move) × (o ≡ Some m) × (moved v m ≡ new)
+did_move v new None e = cc e
+did_move v new (Some m) e = (m, refl, ap (λ (x : Option RouterView). unwrap_or x new) e)
+
+pub route_reached : (got : ℕ → List Letter) (dropped : List Letter) (w : WorldView) (p : ℕ) (v new : RouterView) → Good w → OnRouter w p v → route_row v ≡ Some new → Reached got dropped w [] (with_part w p (RouterV new))
+route_reached got dropped w p v new good on row =
+    let t = router_on w p v good on in
+    let m = did_move v new (first_move v) row in
+    let so = moves_so v m.0 m.1 in
+    let shaped : WellShaped (moved v m.0) = carried_shaped v m.0 (placed_fits v so.side so.work m.0 t.shaped so.there so.is) t.shaped in
+    let s : Shifts w p (RouterV v) (RouterV (moved v m.0)) nothing nothing = router_shifts w p v (moved v m.0) nothing nothing good on refl refl refl shaped
+    (λ f. let e = route_weighs f w.shape (tables_of w) v m.0 t.shape good.limits good.accepted t.shaped t.beats so in omega arith) in
+    subst (λ (x : RouterView). Reached got dropped w [] (with_part w p (RouterV x))) m.2
+    (still_reached got dropped w (with_part w p (RouterV (moved v m.0))) (shifted w p (RouterV v) (RouterV (moved v m.0)) nothing nothing good s))
+
+-- ---- rows of both parts
+
+pub record Both (t : Option RouterView) (l : Option LinkView) (m : Met) : Type 0 where
+  pub new : RouterView
+  pub next : LinkView
+  pub router : t ≡ Some new
+  pub link : l ≡ Some next
+  pub low : RouterV new ≡ m.low
+  pub high : LinkV next ≡ m.high
+
+both_rows : (t : Option RouterView) (l : Option LinkView) (m : Met) → met_by (option_map RouterV t) (option_map LinkV l) ≡ Some m → Both t l m
+both_rows t l m e =
+    let rows = met_rows (option_map RouterV t) (option_map LinkV l) m e in
+    let low = mapped RouterV t m.low rows.0 in
+    let high = mapped LinkV l m.high rows.1 in
+    record { new = low.0; next = high.0; router = low.1; link = high.1; low = low.2; high = high.2 }
+
+pair_is : (w : WorldView) (p q : ℕ) (new : RouterView) (next : LinkView) (m : Met) → RouterV new ≡ m.low → LinkV next ≡ m.high → with_both w p q m ≡ with_part (with_part w p (RouterV new)) q (LinkV next)
+pair_is w p q new next m low high = λ i. with_both w p q (record { low = sym low i; high = sym high i })
+
+-- what a packet weighs on a link
+abbrev on_link : WorldView → ℕ → Packet → (Letter → ℕ) → ℕ
+on_link w q k f = crossing_w f (link_board w.shape q) w.shape (reach_of w) k
+
+-- ---- a departure
+
+not_held : (held : Bool) (o : Option Packet) (k : Packet) → cond held None o ≡ Some k → o ≡ Some k
+not_held true o k e = cc e
+not_held false o k e = e
+
+-- where the way leads to a router, it leads to that of this board
+abbrev pub LeadsTo : RouterView → Port → Board → Type 0
+LeadsTo v way c = leads_on way ≡ true → board_on v.shape v.board way ≡ Some c
+
+keyed_leads : (b c : Bool) → (not b || c) ≡ true → b ≡ true → c ≡ true
+keyed_leads true true e h = refl
+keyed_leads true false e h = cc e
+keyed_leads false c e h = cc h
+
+depart_reached : (got : ℕ → List Letter) (dropped : List Letter) (w : WorldView) (p q : ℕ) (v new : RouterView) (x y : LinkView) (way : Port) (k : Packet) (there : WorldView) → Good w → OnRouter w p v → OnLink w q x → LeadsTo v way (link_board w.shape q) →
+    (leads_to_tile w.shape (kind_of w.shape q) ≡ true → leads_on way ≡ false) → offered way v ≡ Some k → depart_row way v ≡ Some new → put_in k x ≡ Some y → there ≡ with_part (with_part w p (RouterV new)) q (LinkV y) → Reached got dropped w [] there
+depart_reached got dropped w p q v new x y way k there good on off leads down offer row put is =
+    let t = router_on w p v good on in
+    let n : ShapeNumbers = v.shape in
+    let here : buffer_at way v.out ≡ Some k = not_held v.held (buffer_at way v.out) k offer in
+    let fits : FitsWay n v.board way k = subst (λ (o : Option Packet). MatchOption o (Unit {0}) (FitsWay n v.board way)) here (t.shaped.waits way) in
+    let d = departs way v (ap (λ (o : Option RouterView). is_some o) row) in
+    let gone : RouterView = record v { out = with_buffer way None v.out; counter = v.counter +ℤ pos 1 } in
+    let same : gone ≡ new = ap (λ (o : Option RouterView). unwrap_or o new) (sym d.row ∙ row) in
+    let shaped : WellShaped gone = notes_shaped (record v { out = with_buffer way None v.out }) (v.counter +ℤ pos 1) v.black v.held v.ended (gone_shaped v way t.shaped) in
+    let low : Shifts w p (RouterV v) (RouterV gone) nothing (on_link w q k) = router_shifts w p v gone nothing (on_link w q k) good on refl refl refl shaped
+    (λ f.
+    let set = outs_set f (reach_of w) n v.board way None v.out (way_there way v.out k here) in
+    let was : out_w f (reach_of w) n v.board way (buffer_at way v.out) ≡ out_w f (reach_of w) n v.board way (Some k) = ap (out_w f (reach_of w) n v.board way) here in
+    let weighs = out_weighs f n (reach_of w) v.board (link_board w.shape q) way k (subst WithinLimits (sym t.shape) good.limits) fits.0 (λ keyed. leads (keyed_leads (is_keyed k.dest) (leads_on way) fits.1 keyed)) in
+    let shape : crossing_w f (link_board w.shape q) n (reach_of w) k ≡ on_link w q k f = ap (λ m. crossing_w f (link_board w.shape q) m (reach_of w) k) t.shape in
+    omega arith) in
+    let home : leads_to_tile w.shape (kind_of w.shape q) ≡ true → Homed (link_board w.shape q) k = λ tile keyed. absurd (no_both (leads_on way) (keyed_leads (is_keyed k.dest) (leads_on way) fits.1 keyed) (down tile)) in
+    let high : Shifts w q (LinkV x) (LinkV y) (on_link w q k) nothing = link_shifts w q x y (on_link w q k) nothing good off (home_put w.shape q k x y put (part_on w q (LinkV x) good off) home)
+    (λ f. let more = put_more f (link_board w.shape q) w.shape (reach_of w) k x y put in omega arith) in
+    still_reached got dropped w there
+    (both_shifted w p q (RouterV v) (LinkV x) (RouterV gone) (LinkV y) nothing (on_link w q k) good (two_parts w p q (RouterV v) (LinkV x) on off (λ e. cc e)) low high there
+    (is ∙ ap (λ (z : RouterView). with_part (with_part w p (RouterV z)) q (LinkV y)) (sym same)))
+  where
+    no_both : (b : Bool) → b ≡ true → b ≡ false → ⊥
+    no_both b e f = cc (e, f)
+
+depart_by : (got : ℕ → List Letter) (dropped : List Letter) (w : WorldView) (p q : ℕ) (v : RouterView) (x : LinkView) (m : Met) (here there : PartId) (o : Option Packet) → Good w → OnRouter w p v → OnLink w q x → LeadsTo v (link_way v.shape there.0) (link_board w.shape q) →
+    (leads_to_tile w.shape (kind_of w.shape q) ≡ true → leads_on (link_way v.shape there.0) ≡ false) → offered (link_way v.shape there.0) v ≡ o →
+    met_with (event.Depart here there) (RouterV v) (LinkV x) (option_map crossing.Packet o) ≡ Some m → Reached got dropped w [] (with_both w p q m)
+depart_by got dropped w p q v x m here there None good on off leads down offer is = cc is
+depart_by got dropped w p q v x m here there (Some k) good on off leads down offer is =
+    let way : Port = link_way v.shape there.0 in
+    let b = both_rows (cond (is_packet k (offered way v)) (depart_row way v) None) (put_in k x) m is in
+    let row = taken (is_packet k (offered way v)) (depart_row way v) b.new b.router in
+    depart_reached got dropped w p q v b.new x b.next way k (with_both w p q m) good on off leads down offer row.1 b.link (pair_is w p q b.new b.next m b.low b.high)
+
+pub departure_reached : (got : ℕ → List Letter) (dropped : List Letter) (w : WorldView) (p q : ℕ) (v : RouterView) (x : LinkView) (m : Met) (here there : PartId) → Good w → OnRouter w p v → OnLink w q x → LeadsTo v (link_way v.shape there.0) (link_board w.shape q) →
+    (leads_to_tile w.shape (kind_of w.shape q) ≡ true → leads_on (link_way v.shape there.0) ≡ false) →
+    met_with (event.Depart here there) (RouterV v) (LinkV x) (option_map crossing.Packet (offered (link_way v.shape there.0) v)) ≡ Some m → Reached got dropped w [] (with_both w p q m)
+departure_reached got dropped w p q v x m here there good on off leads down is = depart_by got dropped w p q v x m here there (offered (link_way v.shape there.0) v) good on off leads down refl is
+
+-- ---- an arrival
+
+side_is : (side : Port) (n : ShapeNumbers) (b : Board) → has_side n b side ≡ true → IsSide side
+side_is port.East n b e = tt
+side_is port.West n b e = tt
+side_is port.South n b e = tt
+side_is port.North n b e = tt
+side_is port.Up n b e = tt
+side_is port.HostPort n b e = tt
+side_is port.Down n b e = cc e
+side_is port.Here n b e = cc e
+
+empty_place : {A : Type 0} (o : Option A) → is_none o ≡ true → o ≡ None
+empty_place None e = refl
+empty_place (Some x) e = cc e
+
+arrive_reached : (got : ℕ → List Letter) (dropped : List Letter) (w : WorldView) (p q : ℕ) (v new : RouterView) (x y : LinkView) (side : Port) (k : Packet) (there : WorldView) → Good w → OnRouter w p v → OnLink w q x → link_board w.shape q ≡ v.board →
+    front_of x ≡ Some k → accept_row side k v ≡ Some new → take_from x ≡ Some y → there ≡ with_part (with_part w p (RouterV new)) q (LinkV y) → Reached got dropped w [] there
+arrive_reached got dropped w p q v new x y side k there good on off board front row take is =
+    let t = router_on w p v good on in
+    let n : ShapeNumbers = v.shape in
+    let a = accepts side k v (ap (λ (o : Option RouterView). is_some o) row) in
+    let came : RouterView = arrived side k v in
+    let same : came ≡ new = ap (λ (o : Option RouterView). unwrap_or o new) (sym a.row ∙ row) in
+    let tests = and_parts (can_accept side k v) _ (taken _ (Some (arrived side k v)) new row).0 in
+    let parts = and_parts (has_side n v.board side && is_none (work_at side v.process)) (has_packet n k) tests.0 in
+    let place = and_parts (has_side n v.board side) (is_none (work_at side v.process)) parts.0 in
+    let shaped : WellShaped came = notes_shaped (record v { process = with_work side (Some (started v.beats k)) v.process }) came.counter true v.held v.ended (work_shaped v side (Some (started v.beats k)) a.fits t.shaped) in
+    let low : Shifts w p (RouterV v) (RouterV came) (on_link w q k) nothing = router_shifts w p v came (on_link w q k) nothing good on refl refl refl shaped
+    (λ f.
+    let set = works_set f (reach_of w) n v.board v.beats side (Some (started v.beats k)) v.process (side_is side n v.board place.0) in
+    let none : work_w f (reach_of w) n v.board v.beats (work_at side v.process) ≡ 0 = ap (work_w f (reach_of w) n v.board v.beats) (empty_place (work_at side v.process) place.1) in
+    let weighs : work_w f (reach_of w) n v.board v.beats (Some (started v.beats k)) ≡ crossing_w f v.board n (reach_of w) k = came_weighs f w v k good t parts.1 in
+    let shape : crossing_w f v.board n (reach_of w) k ≡ on_link w q k f = ap (λ m. crossing_w f v.board m (reach_of w) k) t.shape ∙ ap (λ (c : Board). crossing_w f c w.shape (reach_of w) k) (sym board) in
+    omega arith) in
+    let homes = home_take w.shape q k x y front take (part_on w q (LinkV x) good off) in
+    let high : Shifts w q (LinkV x) (LinkV y) nothing (on_link w q k) = link_shifts w q x y nothing (on_link w q k) good off homes.1
+    (λ f. let less = take_less f (link_board w.shape q) w.shape (reach_of w) k x y front take in omega arith) in
+    still_reached got dropped w there
+    (both_shifted w p q (RouterV v) (LinkV x) (RouterV came) (LinkV y) (on_link w q k) nothing good (two_parts w p q (RouterV v) (LinkV x) on off (λ e. cc e)) low high there
+    (is ∙ ap (λ (z : RouterView). with_part (with_part w p (RouterV z)) q (LinkV y)) (sym same)))
+  where
+    came_weighs : (f : Letter → ℕ) (w : WorldView) (v : RouterView) (k : Packet) → Good w → GoodRouter w.shape (tables_of w) v → IsTrue (has_packet v.shape k) → work_w f (reach_of w) v.shape v.board v.beats (Some (started v.beats k)) ≡ crossing_w f v.board v.shape (reach_of w) k
+    came_weighs f w v k good t fits =
+        subst (λ m. Accepted m (tables_of w) → v.beats ≡ table_of m (tables_of w) v.board → work_w f (reach m (tables_of w)) v.shape v.board v.beats (Some (started v.beats k)) ≡ crossing_w f v.board v.shape (reach m (tables_of w)) k) t.shape
+        (λ accepted beats. started_weighs f v.shape (tables_of w) v.board v.beats k (subst WithinLimits (sym t.shape) good.limits) accepted t.shaped.board beats fits) good.accepted t.beats
+
+arrive_by : (got : ℕ → List Letter) (dropped : List Letter) (w : WorldView) (p q : ℕ) (v : RouterView) (x : LinkView) (m : Met) (there here : PartId) (o : Option Packet) → Good w → OnRouter w p v → OnLink w q x → link_board w.shape q ≡ v.board → front_of x ≡ o →
+    met_with (event.Arrive there here) (RouterV v) (LinkV x) (option_map crossing.Packet o) ≡ Some m → Reached got dropped w [] (with_both w p q m)
+arrive_by got dropped w p q v x m there here None good on off board front is = cc is
+arrive_by got dropped w p q v x m there here (Some k) good on off board front is =
+    let side : Port = link_side v.shape there.0 in
+    let b = both_rows (accept_row side k v) (cond (is_packet k (front_of x)) (take_from x) None) m is in
+    let take = taken (is_packet k (front_of x)) (take_from x) b.next b.link in
+    arrive_reached got dropped w p q v b.new x b.next side k (with_both w p q m) good on off board front b.router take.1 (pair_is w p q b.new b.next m b.low b.high)
+
+pub arrival_reached : (got : ℕ → List Letter) (dropped : List Letter) (w : WorldView) (p q : ℕ) (v : RouterView) (x : LinkView) (m : Met) (there here : PartId) → Good w → OnRouter w p v → OnLink w q x → link_board w.shape q ≡ v.board →
+    met_with (event.Arrive there here) (RouterV v) (LinkV x) (option_map crossing.Packet (front_of x)) ≡ Some m → Reached got dropped w [] (with_both w p q m)
+arrival_reached got dropped w p q v x m there here good on off board is = arrive_by got dropped w p q v x m there here (front_of x) good on off board refl is

@@ -1,0 +1,18 @@
+//! Laws of runs. A law answers nothing: its contract is what it says.
+
+ghost use Rattle.tn_letters.specs.Conserved.{EveryRunConserves, EveryRunHands};
+ghost use Rattle.tn_letters.specs.Law.{EveryRunIsBagRun};
+
+/// Each run of a machine from its start is a run of the bag machine: what a thread is handed was sent to it, and a letter
+/// that is neither handed nor dropped is in a named place.
+pub fn law_runs()
+    ensures { EveryRunIsBagRun }
+{}
+
+/// Letters are conserved in each run of the bag machine: those that were in flight and those that its steps sent are those
+/// in flight at its end and those that were handed, taken by the host or dropped, each as often. And a thread got what the
+/// steps handed to it, in their order.
+pub fn law_letters()
+    ensures conserved { EveryRunConserves }
+    ensures handed { EveryRunHands }
+{}
