@@ -8,9 +8,9 @@ use Rattle.tn_base.specs.Address.{has_thread, place_in_tile, tile_place}
 use Rattle.tn_base.specs.Parts.{tile_part}
 use Rattle.tn_link.specs.LinkView.{LinkView}
 use Rattle.tn_slots.specs.WellKept.{WellKept}
-use Rattle.tn_tile.specs.Kept.{WellShaped}
-use Rattle.tn_tile.specs.Step.{no_thread, thread_at}
-use Rattle.tn_tile.specs.TileView.{TileView}
+use Rattle.tn_tile.specs.Kept.{IsFit}
+use Rattle.tn_tile.specs.Step.{no_thread}
+use Rattle.tn_tile.specs.TileView.{TileState, TileView, with_now}
 use Rattle.tn_rows.specs.Events.{with_part}
 use Rattle.tn_rows.specs.PartView.{TileV, LinkV}
 use Rattle.tn_rows.specs.WorldView.{WorldView}
@@ -20,8 +20,8 @@ use Rattle.tn_letters.specs.Letters.{board_of, link_board}
 use Rattle.tn_keys.specs.Reach.{Reach}
 use Rattle.tn_letters.specs.Standing.{standing_letters}
 use Rattle.tn_letters.specs.State.{Agree}
-use Rattle.tn_letters.specs.Tiles.{held_in, held_of, part_for, program_of, reach_of, thread_of}
-use Rattle.tn_letters.proofs.Lift.{Good, HomeLink, HomeTile, On, OnLink, good_lift, lift_same, program_stays, tile_is, tile_on, tile_stands, with_tile}
+use Rattle.tn_letters.specs.Tiles.{held_in, held_of, part_for, program_of, reach_of, thread_in, thread_of}
+use Rattle.tn_letters.proofs.Lift.{Good, HomeLink, HomeTile, On, OnLink, good_lift, good_now, lift_same, program_stays, tile_is, tile_on, tile_stands, with_tile}
 use Rattle.tn_letters.proofs.Links.{Shifts, link_shifts, shifted, shifts_beside, two_parts}
 use Rattle.tn_letters.proofs.Runs.{ForDead, discards, run_before}
 use Rattle.tn_letters.proofs.Simulate.{Reached, dropped_after, shown}
@@ -67,8 +67,8 @@ becomes_reached got dropped w there ls same d dead = record {
 }
 
 -- the threads of a tile are as they were
-pub threads_stay : (w there : WorldView) (p : ℕ) (v : TileView) (ls : List Letter) → On w p v → Becomes w there ls → (b : ℕ) → IsTrue (has_thread w.shape b) → part_for w b ≡ p → thread_of there b ≡ thread_at v (place_in_tile w.shape b)
-threads_stay w there p v ls on d b h near = sym (d.threads b h) ∙ ap (λ t. thread_at t (place_in_tile w.shape b)) (tile_is w p v b on near)
+pub threads_stay : (w there : WorldView) (p : ℕ) (v : TileView) (ls : List Letter) → On w p v → Becomes w there ls → (b : ℕ) → IsTrue (has_thread w.shape b) → part_for w b ≡ p → thread_of there b ≡ thread_in v (place_in_tile w.shape b)
+threads_stay w there p v ls on d b h near = sym (d.threads b h) ∙ ap (λ t. thread_in t (place_in_tile w.shape b)) (tile_is w p v b on near)
 
 -- ---- of a tile
 
@@ -79,61 +79,56 @@ nothing f = 0
 abbrev pub of_packet : ShapeNumbers → Reach → Packet → (Letter → ℕ) → ℕ
 of_packet n reach k f = packet_w f n reach (Some k)
 
--- some letters came, some are gone elsewhere, and some are dropped
-pub record Drops (w : WorldView) (v new : TileView) (ls : List Letter) (came gone : (Letter → ℕ) → ℕ) : Type 0 where
-  pub weighs : (f : Letter → ℕ) → came f + tile_w f (reach_of w) v ≡ gone f + sum_by f ls + tile_w f (reach_of w) new
-  pub holds : (j : ℕ) → held_in new j ≡ held_in v j
-  pub threads : new.threads ≡ v.threads
-  pub shape : new.shape ≡ v.shape
-  pub tile : new.tile ≡ v.tile
-  pub code : new.code ≡ v.code
-  pub shaped : WellShaped new
+-- some letters came to a tile, which is in this state now, some are gone elsewhere, and some are dropped
+pub record Drops (w : WorldView) (v : TileView) (new : TileState) (ls : List Letter) (came gone : (Letter → ℕ) → ℕ) : Type 0 where
+  pub weighs : (f : Letter → ℕ) → came f + tile_w f (reach_of w) v ≡ gone f + sum_by f ls + tile_w f (reach_of w) (with_now v new)
+  pub holds : (j : ℕ) → held_in (with_now v new) j ≡ held_in v j
+  pub threads : new.threads ≡ v.now.threads
+  pub fits : IsFit v.plan new
   pub kept : WellKept new.pool
-  pub dropped : new.dropped ≡ v.dropped + length ls
-  pub home : HomeTile (board_of new.tile) new.pending new.transit
+  pub dropped : new.dropped ≡ v.now.dropped + length ls
+  pub home : HomeTile (board_of v.plan.tile) new.pending new.node.out
 
-good_after : (w : WorldView) (p : ℕ) (v new : TileView) (ls : List Letter) (came gone : (Letter → ℕ) → ℕ) → Good w → On w p v → Drops w v new ls came gone → Good (with_tile w p new)
-good_after w p v new ls came gone good on d =
-    let t = tile_on w p v good on in
-    good_lift w p v new good on (record { shape = d.shape ∙ t.shape; shaped = d.shaped; kept = d.kept; part = ap (λ x. tile_part (tile_place w.shape x)) d.tile ∙ t.part; home = d.home })
+good_after : (w : WorldView) (p : ℕ) (v : TileView) (new : TileState) (ls : List Letter) (came gone : (Letter → ℕ) → ℕ) → Good w → On w p v → Drops w v new ls came gone → Good (with_tile w p (with_now v new))
+good_after w p v new ls came gone good on d = good_lift w p v (with_now v new) good on (good_now w.shape p v new (tile_on w p v good on) d.fits d.kept d.home)
 
 -- an event on one tile
-pub tile_becomes : (w : WorldView) (p : ℕ) (v new : TileView) (ls : List Letter) → Good w → On w p v → Drops w v new ls nothing nothing → Becomes w (with_tile w p new) ls
+pub tile_becomes : (w : WorldView) (p : ℕ) (v : TileView) (new : TileState) (ls : List Letter) → Good w → On w p v → Drops w v new ls nothing nothing → Becomes w (with_tile w p (with_now v new)) ls
 tile_becomes w p v new ls good on d = record {
-  threads = λ b h. lift_same thread_at w p v new on (λ j u. ap (λ ts. get_or ts j no_thread) d.threads) b h;
-  held = λ b slot h. ap (λ (x : ℕ → Option Letter). x slot) (lift_same held_in w p v new on (λ j u. d.holds j) b h);
+  threads = λ b h. lift_same thread_in w p v (with_now v new) on (λ j u. ap (λ ts. get_or ts j no_thread) d.threads) b h;
+  held = λ b slot h. ap (λ (x : ℕ → Option Letter). x slot) (lift_same held_in w p v (with_now v new) on (λ j u. d.holds j) b h);
   letters = λ f.
       let x = d.weighs f in
-      let y = tile_stands f w p v new (sum_by f ls) 0 on (omega arith) in
+      let y = tile_stands f w p v (with_now v new) (sum_by f ls) 0 on (omega arith) in
       omega arith;
   good = good_after w p v new ls nothing nothing good on d;
-  program = program_stays w p v new on d.code;
+  program = program_stays w p v (with_now v new) on refl;
   count =
-      let a = dropped_after w p v new on in
+      let a = dropped_after w p v (with_now v new) on in
       let m = d.dropped in
       omega arith;
 }
 
 -- an event on a tile and a link: what the one gains, the other loses
-pub pair_becomes : (w : WorldView) (p q : ℕ) (v new : TileView) (x y : LinkView) (ls : List Letter) (came gone : (Letter → ℕ) → ℕ) → Good w → On w p v → OnLink w q x → Drops w v new ls came gone → HomeLink w.shape q y →
-    ((f : Letter → ℕ) → came f + link_w f (link_board w.shape q) w.shape (reach_of w) y ≡ gone f + link_w f (link_board w.shape q) w.shape (reach_of w) x) → Becomes w (with_part (with_tile w p new) q (LinkV y)) ls
+pub pair_becomes : (w : WorldView) (p q : ℕ) (v : TileView) (new : TileState) (x y : LinkView) (ls : List Letter) (came gone : (Letter → ℕ) → ℕ) → Good w → On w p v → OnLink w q x → Drops w v new ls came gone → HomeLink w.shape q y →
+    ((f : Letter → ℕ) → came f + link_w f (link_board w.shape q) w.shape (reach_of w) y ≡ gone f + link_w f (link_board w.shape q) w.shape (reach_of w) x) → Becomes w (with_part (with_tile w p (with_now v new)) q (LinkV y)) ls
 pair_becomes w p q v new x y ls came gone good on off d home between =
-    let mid : WorldView = with_tile w p new in
+    let mid : WorldView = with_tile w p (with_now v new) in
     let link : Shifts w q (LinkV x) (LinkV y) gone came = link_shifts w q x y gone came good off home (λ f. sym (between f)) in
     let apart = two_parts w p q (TileV v) (LinkV x) on off (λ e. cc e) in
-    let second = shifted mid q (LinkV x) (LinkV y) gone came (good_after w p v new ls came gone good on d) (shifts_beside w p q (TileV v) (TileV new) (LinkV x) (LinkV y) gone came apart on refl link) in
+    let second = shifted mid q (LinkV x) (LinkV y) gone came (good_after w p v new ls came gone good on d) (shifts_beside w p q (TileV v) (TileV (with_now v new)) (LinkV x) (LinkV y) gone came apart on refl link) in
     record {
-      threads = λ b h. lift_same thread_at w p v new on (λ j u. ap (λ ts. get_or ts j no_thread) d.threads) b h ∙ second.threads b h;
-      held = λ b slot h. ap (λ (z : ℕ → Option Letter). z slot) (lift_same held_in w p v new on (λ j u. d.holds j) b h) ∙ second.held b slot;
+      threads = λ b h. lift_same thread_in w p v (with_now v new) on (λ j u. ap (λ ts. get_or ts j no_thread) d.threads) b h ∙ second.threads b h;
+      held = λ b slot h. ap (λ (z : ℕ → Option Letter). z slot) (lift_same held_in w p v (with_now v new) on (λ j u. d.holds j) b h) ∙ second.held b slot;
       letters = λ f.
           let a = d.weighs f in
-          let b = tile_stands f w p v new (gone f + sum_by f ls) (came f) on (omega arith) in
+          let b = tile_stands f w p v (with_now v new) (gone f + sum_by f ls) (came f) on (omega arith) in
           let c = second.letters f in
           omega arith;
       good = second.good;
-      program = second.program ∙ program_stays w p v new on d.code;
+      program = second.program ∙ program_stays w p v (with_now v new) on refl;
       count =
-          let a = dropped_after w p v new on in
+          let a = dropped_after w p v (with_now v new) on in
           let b = second.count in
           let m = d.dropped in
           omega arith;

@@ -19,18 +19,22 @@ use Rattle.std.specs.List.{AllByRecursion}
 use Rattle.tn_link.specs.LinkRows.{first_in, front_of, put_in, rest_in, take_from}
 use Rattle.tn_link.specs.LinkView.{LinkView}
 use Rattle.tn_stamp.specs.declared.entry.Crossing.TheVariants as crossing
-use Rattle.tn_tile.specs.declared.buffers.Buffers.{Buffers}
-use Rattle.tn_tile.specs.Kept.{IsPacket, WellShaped}
-use Rattle.tn_tile.specs.Rows.{accept_row, accepted, arrived, buffer_at, depart_row, offered, passed, with_buffer}
-use Rattle.tn_tile.specs.TileView.{TileView}
-use Rattle.tn_tile.proofs.Packets.{departs}
-use Rattle.tn_tile.proofs.Shaped.{notes_shaped, transit_shaped}
+use Rattle.tn_node.specs.declared.ports.Ports.{Ports}
+use Rattle.std.specs.Prelude.{◌-ℤ◌, ◌^◌, int_lt}
+use Rattle.tn_node.specs.declared.node.Node.{Node}
+use Rattle.tn_node.specs.NodeRows.{depart_row as node_departs, departed, departed_with, give_row, offered}
+use Rattle.tn_node.specs.PortRows.{at, with_at}
+use Rattle.tn_node.proofs.Given.{given}
+use Rattle.tn_tile.specs.Kept.{IsPacket, has_way}
+use Rattle.tn_tile.specs.Rows.{accept_row, accepted, came, depart_row, passed, with_node}
+use Rattle.tn_tile.specs.TileView.{TileState, TileView, now_by, with_now}
+use Rattle.tn_tile.proofs.Shaped.{out_fit}
 use Rattle.tn_tile.proofs.Steps.{taken}
 use Rattle.tn_rows.proofs.Meeting.{mapped, met_rows}
 use Rattle.tn_rows.specs.Events.{Met, met_by, met_with, with_both, with_part}
 use Rattle.tn_rows.specs.PartView.{TileV, LinkV}
 use Rattle.tn_rows.specs.Places.{link_way}
-use Rattle.tn_rows.specs.SamePacket.{is_packet}
+use Rattle.tn_node.specs.SamePacket.{is_packet}
 use Rattle.tn_rows.specs.WorldView.{WorldView}
 use Rattle.tn_letters.specs.declared.steps.BagStep.{BagStep}
 use Rattle.tn_keys.specs.Reach.{Reach}
@@ -42,25 +46,26 @@ use Rattle.tn_letters.proofs.Delivery.{discards_are, dropped_letters, packet_pas
 use Rattle.tn_letters.proofs.Homes.{AtHome, home_way}
 use Rattle.tn_letters.proofs.Lift.{Good, GoodTile, HomeLink, Homed, On, OnLink, leads_to_tile, part_on, tile_on, with_tile}
 use Rattle.tn_letters.proofs.Simulate.{Reached}
-use Rattle.tn_letters.proofs.Weights.{buffers_w, crossing_w, link_w, packet_w}
+use Rattle.tn_letters.proofs.Weights.{buffers_w, crossing_w, link_w, packet_w, ports_set}
 
 -- ---- rows of both parts
 
 -- what the rows of a tile and a link gave
-pub record Both (t : Option TileView) (l : Option LinkView) (m : Met) : Type 0 where
-  pub new : TileView
+pub record Both (v : TileView) (t : Option TileState) (l : Option LinkView) (m : Met) : Type 0 where
+  pub new : TileState
   pub next : LinkView
   pub tile : t ≡ Some new
   pub link : l ≡ Some next
-  pub low : TileV new ≡ m.low
+  pub low : TileV (with_now v new) ≡ m.low
   pub high : LinkV next ≡ m.high
 
-both_rows : (t : Option TileView) (l : Option LinkView) (m : Met) → met_by (option_map TileV t) (option_map LinkV l) ≡ Some m → Both t l m
-both_rows t l m e =
-    let rows = met_rows (option_map TileV t) (option_map LinkV l) m e in
-    let low = mapped TileV t m.low rows.0 in
+both_rows : (v : TileView) (t : Option TileState) (l : Option LinkView) (m : Met) → met_by (option_map TileV (now_by v t)) (option_map LinkV l) ≡ Some m → Both v t l m
+both_rows v t l m e =
+    let rows = met_rows (option_map TileV (now_by v t)) (option_map LinkV l) m e in
+    let low = mapped TileV (now_by v t) m.low rows.0 in
+    let now = mapped (with_now v) t low.0 low.1 in
     let high = mapped LinkV l m.high rows.1 in
-    record { new = low.0; next = high.0; tile = low.1; link = high.1; low = low.2; high = high.2 }
+    record { new = now.0; next = high.0; tile = now.1; link = high.1; low = ap TileV now.2 ∙ low.2; high = high.2 }
 
 pair_is : (w : WorldView) (p q : ℕ) (new : TileView) (next : LinkView) (m : Met) → TileV new ≡ m.low → LinkV next ≡ m.high → with_part (with_tile w p new) q (LinkV next) ≡ with_both w p q m
 pair_is w p q new next m low high = λ i. with_both w p q (record { low = low i; high = high i })
@@ -128,107 +133,98 @@ not_held : (held : Bool) (o : Option Packet) (k : Packet) → cond held None o �
 not_held true o k e = cc e
 not_held false o k e = e
 
-buffer_less : (f : Letter → ℕ) (n : ShapeNumbers) (reach : Reach) (way : Port) (k : Packet) (b : Buffers) → buffer_at way b ≡ Some k → buffers_w f n reach b ≡ packet_w f n reach (Some k) + buffers_w f n reach (with_buffer way None b)
-buffer_less f n reach port.East k b e = let z : packet_w f n reach b.east ≡ packet_w f n reach (Some k) = ap (packet_w f n reach) e in omega arith
-buffer_less f n reach port.West k b e = let z : packet_w f n reach b.west ≡ packet_w f n reach (Some k) = ap (packet_w f n reach) e in omega arith
-buffer_less f n reach port.South k b e = let z : packet_w f n reach b.south ≡ packet_w f n reach (Some k) = ap (packet_w f n reach) e in omega arith
-buffer_less f n reach port.North k b e = let z : packet_w f n reach b.north ≡ packet_w f n reach (Some k) = ap (packet_w f n reach) e in omega arith
-buffer_less f n reach port.Up k b e = let z : packet_w f n reach b.up ≡ packet_w f n reach (Some k) = ap (packet_w f n reach) e in omega arith
-buffer_less f n reach port.Down k b e = cc e
-buffer_less f n reach port.HostPort k b e = cc e
-buffer_less f n reach port.Here k b e = cc e
+out_less : (f : Letter → ℕ) (n : ShapeNumbers) (reach : Reach) (way : Port) (k : Packet) (out : Ports Packet) → at way out ≡ Some k → buffers_w f n reach out ≡ packet_w f n reach (Some k) + buffers_w f n reach (with_at way None out)
+out_less f n reach way k out e =
+    let a = ports_set (λ way. packet_w f n reach) way None out (λ here. let no : None ≡ Some k = sym (ap (λ x. at x out) here) ∙ e in cc no) in
+    let z : packet_w f n reach (at way out) ≡ packet_w f n reach (Some k) = ap (packet_w f n reach) e in
+    omega arith
 
 -- the tile after its packet for this way is gone
-abbrev pub sent_off : Port → TileView → TileView
-sent_off way v = record v { transit = with_buffer way None v.transit; counter = v.counter +ℤ pos 1 }
+abbrev pub sent_off : Port → TileState → TileState
+sent_off way s = with_node s (departed way s.node)
 
-off_shaped : (way : Port) (v : TileView) → WellShaped v → WellShaped (sent_off way v)
-off_shaped way v shaped = notes_shaped (record v { transit = with_buffer way None v.transit }) v.dropped (v.counter +ℤ pos 1) v.black v.held v.ended (transit_shaped v way None tt shaped)
-
-off_drops : (w : WorldView) (v : TileView) (way : Port) (k : Packet) (p : ℕ) → GoodTile w.shape p v → buffer_at way v.transit ≡ Some k → Drops w v (sent_off way v) [] nothing (of_packet v.shape (reach_of w) k)
+off_drops : (w : WorldView) (v : TileView) (way : Port) (k : Packet) (p : ℕ) → GoodTile w.shape p v → at way v.now.node.out ≡ Some k → Drops w v (sent_off way v.now) [] nothing (of_packet v.plan.shape (reach_of w) k)
 off_drops w v way k p t e = record {
-  weighs = λ f. let b = buffer_less f v.shape (reach_of w) way k v.transit e in omega arith;
+  weighs = λ f. let b = out_less f v.plan.shape (reach_of w) way k v.now.node.out e in omega arith;
   holds = λ j. refl;
   threads = refl;
-  shape = refl;
-  tile = refl;
-  code = refl;
-  shaped = off_shaped way v t.shaped;
+  fits = let f = out_fit v.plan v.now way None tt t.shaped.fits in record { threads = f.threads; pool = f.pool; pending = f.pending; out = f.out };
   kept = t.kept;
   dropped = omega arith;
-  home = home_way (board_of v.tile) v.pending v.transit way None tt t.home;
+  home = home_way (board_of v.plan.tile) v.now.pending v.now.node.out way None tt t.home;
 }
 
-departed_is : (way : Port) (v new : TileView) → depart_row way v ≡ Some new → new ≡ sent_off way v
-departed_is way v new e =
-    let d = departs way v (ap (λ (o : Option TileView). is_some o) e) in
-    sym (ap (λ (o : Option TileView). unwrap_or o new) (sym d.row ∙ e))
+departed_by : (o : Option Packet) (way : Port) (n new : Node) → departed_with o way n ≡ Some new → departed way n ≡ new
+departed_by None way n new e = cc e
+departed_by (Some p) way n new e =
+    let yes = taken (int_lt n.counter (pos (2 ^ 63) -ℤ pos 1)) (Some (departed way n)) new e in
+    ap (λ (o : Option Node). unwrap_or o new) yes.1
 
-depart_reached : (got : ℕ → List Letter) (dropped : List Letter) (w : WorldView) (p q : ℕ) (v new : TileView) (x y : LinkView) (way : Port) (k : Packet) → Good w → On w p v → OnLink w q x → link_board w.shape q ≡ board_of v.tile →
-    offered way v ≡ Some k → depart_row way v ≡ Some new → put_in k x ≡ Some y → Reached got dropped w [] (with_part (with_tile w p new) q (LinkV y))
+-- the tile's state after a departure
+depart_is : (way : Port) (s : TileState) (new : TileState) → depart_row way s ≡ Some new → sent_off way s ≡ new
+depart_is way s new e =
+    let m = mapped (with_node s) (node_departs way s.node) new e in
+    ap (with_node s) (departed_by (offered way s.node) way s.node m.0 m.1) ∙ m.2
+
+depart_reached : (got : ℕ → List Letter) (dropped : List Letter) (w : WorldView) (p q : ℕ) (v : TileView) (new : TileState) (x y : LinkView) (way : Port) (k : Packet) → Good w → On w p v → OnLink w q x → link_board w.shape q ≡ board_of v.plan.tile →
+    offered way v.now.node ≡ Some k → depart_row way v.now ≡ Some new → put_in k x ≡ Some y → Reached got dropped w [] (with_part (with_tile w p (with_now v new)) q (LinkV y))
 depart_reached got dropped w p q v new x y way k good on off board offer row put =
     let t = tile_on w p v good on in
-    let there : buffer_at way v.transit ≡ Some k = not_held v.held (buffer_at way v.transit) k offer in
-    let fits : IsTrue (has_packet v.shape k) = packet_there way v k t.shaped there in
-    let home : Homed (link_board w.shape q) k = λ keyed. subst (AtHome (board_of v.tile)) there (t.home.goes_on way) keyed ∙ sym board in
-    let d : Drops w v new [] nothing (of_packet v.shape (reach_of w) k) = subst (λ z. Drops w v z [] nothing (of_packet v.shape (reach_of w) k)) (sym (departed_is way v new row)) (off_drops w v way k p t there) in
-    let b = pair_becomes w p q v new x y [] nothing (of_packet v.shape (reach_of w) k) good on off d (home_put w.shape q k x y put (part_on w q (LinkV x) good off) (λ leads. home))
+    let there : at way v.now.node.out ≡ Some k = not_held v.now.node.held (at way v.now.node.out) k offer in
+    let fits : IsTrue (has_packet v.plan.shape k) = (subst (λ (o : Option Packet). MatchOption o (Unit {0}) (λ p. IsPacket v.plan.shape p × IsTrue (has_way way))) there (t.shaped.fits.out way)).0 in
+    let home : Homed (link_board w.shape q) k = λ keyed. subst (AtHome (board_of v.plan.tile)) there (t.home.goes_on way) keyed ∙ sym board in
+    let d : Drops w v new [] nothing (of_packet v.plan.shape (reach_of w) k) = subst (λ z. Drops w v z [] nothing (of_packet v.plan.shape (reach_of w) k)) (depart_is way v.now new row) (off_drops w v way k p t there) in
+    let b = pair_becomes w p q v new x y [] nothing (of_packet v.plan.shape (reach_of w) k) good on off d (home_put w.shape q k x y put (part_on w q (LinkV x) good off) (λ leads. home))
     (λ f.
     let more = put_more f (link_board w.shape q) w.shape (reach_of w) k x y put in
-    let weighs = crossing_weighs f (link_board w.shape q) v.shape (reach_of w) k fits home in
-    let same : crossing_w f (link_board w.shape q) v.shape (reach_of w) k ≡ crossing_w f (link_board w.shape q) w.shape (reach_of w) k = ap (λ n. crossing_w f (link_board w.shape q) n (reach_of w) k) t.shape in
+    let weighs = crossing_weighs f (link_board w.shape q) v.plan.shape (reach_of w) k fits home in
+    let same : crossing_w f (link_board w.shape q) v.plan.shape (reach_of w) k ≡ crossing_w f (link_board w.shape q) w.shape (reach_of w) k = ap (λ n. crossing_w f (link_board w.shape q) n (reach_of w) k) t.shape in
     omega arith) in
-    becomes_reached got dropped w (with_part (with_tile w p new) q (LinkV y)) [] refl b tt
-  where
-    packet_there : (way : Port) (v : TileView) (k : Packet) → WellShaped v → buffer_at way v.transit ≡ Some k → IsTrue (has_packet v.shape k)
-    packet_there way v k shaped e = subst (λ (o : Option Packet). MatchOption o (Unit {0}) (IsPacket v.shape)) e (shaped.goes_on way)
+    becomes_reached got dropped w (with_part (with_tile w p (with_now v new)) q (LinkV y)) [] refl b tt
 
-depart_by : (got : ℕ → List Letter) (dropped : List Letter) (w : WorldView) (p q : ℕ) (v : TileView) (x : LinkView) (m : Met) (here there : PartId) (o : Option Packet) → Good w → On w p v → OnLink w q x → link_board w.shape q ≡ board_of v.tile → offered (link_way v.shape there.0) v ≡ o →
+depart_by : (got : ℕ → List Letter) (dropped : List Letter) (w : WorldView) (p q : ℕ) (v : TileView) (x : LinkView) (m : Met) (here there : PartId) (o : Option Packet) → Good w → On w p v → OnLink w q x → link_board w.shape q ≡ board_of v.plan.tile → offered (link_way v.plan.shape there.0) v.now.node ≡ o →
     met_with (event.Depart here there) (TileV v) (LinkV x) (option_map crossing.Packet o) ≡ Some m → Reached got dropped w [] (with_both w p q m)
 depart_by got dropped w p q v x m here there None good on off board offer is = cc is
 depart_by got dropped w p q v x m here there (Some k) good on off board offer is =
-    let way : Port = link_way v.shape there.0 in
-    let b = both_rows (cond (is_packet k (offered way v)) (depart_row way v) None) (put_in k x) m is in
-    let row = taken (is_packet k (offered way v)) (depart_row way v) b.new b.tile in
-    subst (λ (z : WorldView). Reached got dropped w [] z) (pair_is w p q b.new b.next m b.low b.high)
-    (depart_reached got dropped w p q v b.new x b.next way k good on off board offer row.1 b.link)
+    let way : Port = link_way v.plan.shape there.0 in
+    let b = both_rows v (option_map (with_node v.now) (give_row way k v.now.node)) (put_in k x) m is in
+    let row : depart_row way v.now ≡ Some b.new = sym (ap (λ o. option_map (with_node v.now) o) (given way k v.now.node offer)) ∙ b.tile in
+    subst (λ (z : WorldView). Reached got dropped w [] z) (pair_is w p q (with_now v b.new) b.next m b.low b.high)
+    (depart_reached got dropped w p q v b.new x b.next way k good on off board offer row b.link)
 
-pub departure_reached : (got : ℕ → List Letter) (dropped : List Letter) (w : WorldView) (p q : ℕ) (v : TileView) (x : LinkView) (m : Met) (here there : PartId) → Good w → On w p v → OnLink w q x → link_board w.shape q ≡ board_of v.tile →
-    met_with (event.Depart here there) (TileV v) (LinkV x) (option_map crossing.Packet (offered (link_way v.shape there.0) v)) ≡ Some m → Reached got dropped w [] (with_both w p q m)
-departure_reached got dropped w p q v x m here there good on off board is = depart_by got dropped w p q v x m here there (offered (link_way v.shape there.0) v) good on off board refl is
+pub departure_reached : (got : ℕ → List Letter) (dropped : List Letter) (w : WorldView) (p q : ℕ) (v : TileView) (x : LinkView) (m : Met) (here there : PartId) → Good w → On w p v → OnLink w q x → link_board w.shape q ≡ board_of v.plan.tile →
+    met_with (event.Depart here there) (TileV v) (LinkV x) (option_map crossing.Packet (offered (link_way v.plan.shape there.0) v.now.node)) ≡ Some m → Reached got dropped w [] (with_both w p q m)
+departure_reached got dropped w p q v x m here there good on off board is = depart_by got dropped w p q v x m here there (offered (link_way v.plan.shape there.0) v.now.node) good on off board refl is
 
 -- ---- an arrival
 
 -- the tile took the packet, and what it counts of links is another
-pub record Taken (k : Packet) (v new : TileView) : Type 0 where
-  pub fits : IsTrue (has_packet v.shape k)
-  pub mid : TileView
-  pub passes : passed k v ≡ Some mid
-  pub is : arrived mid ≡ new
+pub record Taken (k : Packet) (v : TileView) (new : TileState) : Type 0 where
+  pub fits : IsTrue (has_packet v.plan.shape k)
+  pub mid : TileState
+  pub passes : passed v.plan k v.now ≡ Some mid
+  pub is : came mid ≡ new
 
-accepted_is : (k : Packet) (v new : TileView) → accept_row k v ≡ Some new → Taken k v new
+accepted_is : (k : Packet) (v : TileView) (new : TileState) → accept_row v.plan k v.now ≡ Some new → Taken k v new
 accepted_is k v new e =
-    let yes = taken _ (option_map arrived (accepted k v)) new e in
-    let some = mapped arrived (accepted k v) new yes.1 in
-    let fits = taken (has_packet v.shape k) (passed k v) some.0 some.1 in
+    let yes = taken _ (option_map came (accepted v.plan k v.now)) new e in
+    let some = mapped came (accepted v.plan k v.now) new yes.1 in
+    let fits = taken (has_packet v.plan.shape k) (passed v.plan k v.now) some.0 some.1 in
     record { fits = fits.0; mid = some.0; passes = fits.1; is = some.2 }
 
-arrived_drops : (w : WorldView) (v mid : TileView) (ls : List Letter) (came gone : (Letter → ℕ) → ℕ) → Drops w v mid ls came gone → Drops w v (arrived mid) ls came gone
-arrived_drops w v mid ls came gone d = record {
+arrived_drops : (w : WorldView) (v : TileView) (mid : TileState) (ls : List Letter) (came_in gone : (Letter → ℕ) → ℕ) → Drops w v mid ls came_in gone → Drops w v (came mid) ls came_in gone
+arrived_drops w v mid ls came_in gone d = record {
   weighs = d.weighs;
   holds = d.holds;
   threads = d.threads;
-  shape = d.shape;
-  tile = d.tile;
-  code = d.code;
-  shaped = notes_shaped mid mid.dropped (arrived mid).counter true mid.held mid.ended d.shaped;
+  fits = record { threads = d.fits.threads; pool = d.fits.pool; pending = d.fits.pending; out = d.fits.out };
   kept = d.kept;
   dropped = d.dropped;
   home = d.home;
 }
 
-arrive_reached : (got : ℕ → List Letter) (dropped : List Letter) (w : WorldView) (p q : ℕ) (v new : TileView) (x y : LinkView) (k : Packet) → Good w → On w p v → OnLink w q x → link_board w.shape q ≡ board_of v.tile → leads_to_tile w.shape (kind_of w.shape q) ≡ true →
-    front_of x ≡ Some k → accept_row k v ≡ Some new → take_from x ≡ Some y → Reached got dropped w (delivery_steps (reach_of w) (Some k) v) (with_part (with_tile w p new) q (LinkV y))
+arrive_reached : (got : ℕ → List Letter) (dropped : List Letter) (w : WorldView) (p q : ℕ) (v : TileView) (new : TileState) (x y : LinkView) (k : Packet) → Good w → On w p v → OnLink w q x → link_board w.shape q ≡ board_of v.plan.tile → leads_to_tile w.shape (kind_of w.shape q) ≡ true →
+    front_of x ≡ Some k → accept_row v.plan k v.now ≡ Some new → take_from x ≡ Some y → Reached got dropped w (delivery_steps (reach_of w) (Some k) v) (with_part (with_tile w p (with_now v new)) q (LinkV y))
 arrive_reached got dropped w p q v new x y k good on off board leads front row take =
     let t = tile_on w p v good on in
     let ls : List Letter = dropped_letters w k v in
@@ -236,26 +232,26 @@ arrive_reached got dropped w p q v new x y k good on off board leads front row t
     let homes = home_take w.shape q k x y front take (part_on w q (LinkV x) good off) in
     let home : Homed (link_board w.shape q) k = homes.0 leads in
     let passes = packet_passes w p v a.mid k good.limits t a.fits (λ keyed. home keyed ∙ board) a.passes in
-    let d : Drops w v new ls (of_packet v.shape (reach_of w) k) nothing = subst (λ z. Drops w v z ls (of_packet v.shape (reach_of w) k) nothing) a.is (arrived_drops w v a.mid ls (of_packet v.shape (reach_of w) k) nothing passes.drops) in
-    let there : WorldView = with_part (with_tile w p new) q (LinkV y) in
-    let b : Becomes w there ls = pair_becomes w p q v new x y ls (of_packet v.shape (reach_of w) k) nothing good on off d homes.1
+    let d : Drops w v new ls (of_packet v.plan.shape (reach_of w) k) nothing = subst (λ z. Drops w v z ls (of_packet v.plan.shape (reach_of w) k) nothing) a.is (arrived_drops w v a.mid ls (of_packet v.plan.shape (reach_of w) k) nothing passes.drops) in
+    let there : WorldView = with_part (with_tile w p (with_now v new)) q (LinkV y) in
+    let b : Becomes w there ls = pair_becomes w p q v new x y ls (of_packet v.plan.shape (reach_of w) k) nothing good on off d homes.1
     (λ f.
     let less = take_less f (link_board w.shape q) w.shape (reach_of w) k x y front take in
-    let weighs = crossing_weighs f (link_board w.shape q) v.shape (reach_of w) k a.fits home in
-    let same : crossing_w f (link_board w.shape q) v.shape (reach_of w) k ≡ crossing_w f (link_board w.shape q) w.shape (reach_of w) k = ap (λ n. crossing_w f (link_board w.shape q) n (reach_of w) k) t.shape in
+    let weighs = crossing_weighs f (link_board w.shape q) v.plan.shape (reach_of w) k a.fits home in
+    let same : crossing_w f (link_board w.shape q) v.plan.shape (reach_of w) k ≡ crossing_w f (link_board w.shape q) w.shape (reach_of w) k = ap (λ n. crossing_w f (link_board w.shape q) n (reach_of w) k) t.shape in
     omega arith) in
     subst (λ (steps : List BagStep). Reached got dropped w steps there) (discards_are w k v)
     (becomes_reached got dropped w there ls refl b (passes.dead got dropped there (threads_stay w there p v ls on b)))
 
-arrive_by : (got : ℕ → List Letter) (dropped : List Letter) (w : WorldView) (p q : ℕ) (v : TileView) (x : LinkView) (m : Met) (there here : PartId) (o : Option Packet) → Good w → On w p v → OnLink w q x → link_board w.shape q ≡ board_of v.tile → leads_to_tile w.shape (kind_of w.shape q) ≡ true → front_of x ≡ o →
+arrive_by : (got : ℕ → List Letter) (dropped : List Letter) (w : WorldView) (p q : ℕ) (v : TileView) (x : LinkView) (m : Met) (there here : PartId) (o : Option Packet) → Good w → On w p v → OnLink w q x → link_board w.shape q ≡ board_of v.plan.tile → leads_to_tile w.shape (kind_of w.shape q) ≡ true → front_of x ≡ o →
     met_with (event.Arrive there here) (TileV v) (LinkV x) (option_map crossing.Packet o) ≡ Some m → Reached got dropped w (delivery_steps (reach_of w) o v) (with_both w p q m)
 arrive_by got dropped w p q v x m there here None good on off board leads front is = cc is
 arrive_by got dropped w p q v x m there here (Some k) good on off board leads front is =
-    let b = both_rows (accept_row k v) (cond (is_packet k (front_of x)) (take_from x) None) m is in
+    let b = both_rows v (accept_row v.plan k v.now) (cond (is_packet k (front_of x)) (take_from x) None) m is in
     let take = taken (is_packet k (front_of x)) (take_from x) b.next b.link in
-    subst (λ (z : WorldView). Reached got dropped w (delivery_steps (reach_of w) (Some k) v) z) (pair_is w p q b.new b.next m b.low b.high)
+    subst (λ (z : WorldView). Reached got dropped w (delivery_steps (reach_of w) (Some k) v) z) (pair_is w p q (with_now v b.new) b.next m b.low b.high)
     (arrive_reached got dropped w p q v b.new x b.next k good on off board leads front b.tile take.1)
 
-pub arrival_reached : (got : ℕ → List Letter) (dropped : List Letter) (w : WorldView) (p q : ℕ) (v : TileView) (x : LinkView) (m : Met) (there here : PartId) → Good w → On w p v → OnLink w q x → link_board w.shape q ≡ board_of v.tile → leads_to_tile w.shape (kind_of w.shape q) ≡ true →
+pub arrival_reached : (got : ℕ → List Letter) (dropped : List Letter) (w : WorldView) (p q : ℕ) (v : TileView) (x : LinkView) (m : Met) (there here : PartId) → Good w → On w p v → OnLink w q x → link_board w.shape q ≡ board_of v.plan.tile → leads_to_tile w.shape (kind_of w.shape q) ≡ true →
     met_with (event.Arrive there here) (TileV v) (LinkV x) (option_map crossing.Packet (front_of x)) ≡ Some m → Reached got dropped w (delivery_steps (reach_of w) (front_of x) v) (with_both w p q m)
 arrival_reached got dropped w p q v x m there here good on off board leads is = arrive_by got dropped w p q v x m there here (front_of x) good on off board leads refl is

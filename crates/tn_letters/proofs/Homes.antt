@@ -5,12 +5,13 @@ use Rattle.std.proofs.lemmas.List.{get_or-set_same, get_or-set_other}
 use Rattle.tn_base.specs.declared.ids.Board.{Board}
 use Rattle.tn_base.specs.declared.message.Packet.{Packet}
 use Rattle.tn_base.specs.declared.port.Port.{Port}
-use Rattle.tn_base.specs.declared.port.Port.TheVariants as port
 use Rattle.tn_base.specs.Address.{tile_of}
 use Rattle.tn_base.specs.Ports.{board_x, board_y}
-use Rattle.tn_tile.specs.declared.buffers.Buffers.{Buffers}
-use Rattle.tn_tile.specs.Rows.{buffer_at, with_buffer}
-use Rattle.tn_tile.specs.TileView.{TileView}
+use Rattle.tn_node.specs.declared.node.Node.{Node}
+use Rattle.tn_node.specs.declared.ports.Ports.{Ports}
+use Rattle.tn_node.specs.PortRows.{with_at}
+use Rattle.tn_node.proofs.PortLaws.{each_set}
+use Rattle.tn_tile.specs.TileView.{TileState, TileView}
 use Rattle.tn_letters.specs.Letters.{board_of}
 use Rattle.tn_letters.proofs.Lift.{HomeTile, Homed}
 
@@ -18,12 +19,11 @@ use Rattle.tn_letters.proofs.Lift.{HomeTile, Homed}
 abbrev pub AtHome : Board → Option Packet → Type 0
 AtHome b o = MatchOption o (Unit {0}) (Homed b)
 
-pub home_same : (v new : TileView) → new.tile ≡ v.tile → new.pending ≡ v.pending → new.transit ≡ v.transit → HomeTile (board_of v.tile) v.pending v.transit → HomeTile (board_of new.tile) new.pending new.transit
-home_same v new t p q h =
-    subst (λ x. HomeTile (board_of x) new.pending new.transit) (sym t)
-    (subst (λ x. HomeTile (board_of v.tile) x new.transit) (sym p) (subst (λ x. HomeTile (board_of v.tile) v.pending x) (sym q) h))
+pub home_same : (v : TileView) (new : TileState) → new.pending ≡ v.now.pending → new.node ≡ v.now.node → HomeTile (board_of v.plan.tile) v.now.pending v.now.node.out → HomeTile (board_of v.plan.tile) new.pending new.node.out
+home_same v new p q h =
+    subst (λ x. HomeTile (board_of v.plan.tile) x new.node.out) (sym p) (subst (λ (x : Node). HomeTile (board_of v.plan.tile) v.now.pending x.out) (sym q) h)
 
-pub home_sent : (b : Board) (pending : List (Option Packet)) (transit : Buffers) (k : ℕ) (o : Option Packet) → k < length pending → AtHome b o → HomeTile b pending transit → HomeTile b (set pending k o) transit
+pub home_sent : (b : Board) (pending : List (Option Packet)) (transit : Ports Packet) (k : ℕ) (o : Option Packet) → k < length pending → AtHome b o → HomeTile b pending transit → HomeTile b (set pending k o) transit
 home_sent b pending transit k o within fits h = record {
   sent = λ j. elim (cases_eq j k) [
     | inl e ↦ subst (AtHome b) (sym (ap (λ i. get_or (set pending k o) i None) e ∙ get_or-set_same pending k o None within)) fits
@@ -32,23 +32,8 @@ home_sent b pending transit k o within fits h = record {
   goes_on = h.goes_on;
 }
 
-set_home : (way at : Port) (b : Board) (o : Option Packet) (t : Buffers) → AtHome b o → ((w : Port) → AtHome b (buffer_at w t)) → AtHome b (buffer_at at (with_buffer way o t))
-set_home port.East port.East b o t fits all = fits
-set_home port.East at b o t fits all = all at
-set_home port.West port.West b o t fits all = fits
-set_home port.West at b o t fits all = all at
-set_home port.South port.South b o t fits all = fits
-set_home port.South at b o t fits all = all at
-set_home port.North port.North b o t fits all = fits
-set_home port.North at b o t fits all = all at
-set_home port.Up port.Up b o t fits all = fits
-set_home port.Up at b o t fits all = all at
-set_home port.Down at b o t fits all = all at
-set_home port.HostPort at b o t fits all = all at
-set_home port.Here at b o t fits all = all at
-
-pub home_way : (b : Board) (pending : List (Option Packet)) (transit : Buffers) (way : Port) (o : Option Packet) → AtHome b o → HomeTile b pending transit → HomeTile b pending (with_buffer way o transit)
-home_way b pending transit way o fits h = record { sent = h.sent; goes_on = λ at. set_home way at b o transit fits h.goes_on }
+pub home_way : (b : Board) (pending : List (Option Packet)) (transit : Ports Packet) (way : Port) (o : Option Packet) → AtHome b o → HomeTile b pending transit → HomeTile b pending (with_at way o transit)
+home_way b pending transit way o fits h = record { sent = h.sent; goes_on = λ p. each_set (λ q. AtHome b) way p o transit fits h.goes_on }
 
 -- the board of a thread is that of its tile
 pub tile_board : (a : ℕ) → board_of (tile_of a) ≡ board_of a

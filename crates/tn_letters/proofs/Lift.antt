@@ -15,14 +15,14 @@ use Rattle.tn_keys.specs.Reach.{Reach, reach}
 use Rattle.tn_keys.specs.Tables.{Table, table_of}
 use Rattle.tn_router.specs.Kept.{WellShaped as RouterShaped, is_keyed}
 use Rattle.tn_router.specs.RouterView.{RouterView}
-use Rattle.tn_tile.specs.declared.buffers.Buffers.{Buffers}
-use Rattle.tn_tile.specs.Rows.{buffer_at}
+use Rattle.tn_node.specs.declared.ports.Ports.{Ports}
+use Rattle.tn_node.specs.PortRows.{at}
 use Rattle.tn_letters.specs.Letters.{board_of, link_board}
 use Rattle.tn_base.specs.Shape.{WithinLimits}
 use Rattle.tn_base.proofs.TilePlaces.{fields, place_below, place_named, tile_found}
 use Rattle.tn_slots.specs.WellKept.{WellKept}
-use Rattle.tn_tile.specs.Kept.{WellShaped}
-use Rattle.tn_tile.specs.TileView.{TileView}
+use Rattle.tn_tile.specs.Kept.{IsFit, WellShaped}
+use Rattle.tn_tile.specs.TileView.{TileState, TileView, with_now}
 use Rattle.tn_base.specs.declared.ids.PartId.{PartId}
 use Rattle.tn_base.specs.declared.part.Kind.{Kind}
 use Rattle.tn_base.specs.declared.part.Kind.TheVariants as kind
@@ -41,23 +41,27 @@ abbrev pub Homed : Board → Packet → Type 0
 Homed b k = is_keyed k.dest ≡ true → board_of k.origin ≡ b
 
 -- so do those that the threads of a tile sent, and those that go on from it
-pub record HomeTile (b : Board) (pending : List (Option Packet)) (transit : Buffers) : Type 0 where
+pub record HomeTile (b : Board) (pending : List (Option Packet)) (transit : Ports Packet) : Type 0 where
   pub sent : (k : ℕ) → MatchOption (get_or pending k None) (Unit {0}) (Homed b)
-  pub goes_on : (way : Port) → MatchOption (buffer_at way transit) (Unit {0}) (Homed b)
+  pub goes_on : (way : Port) → MatchOption (at way transit) (Unit {0}) (Homed b)
 
 -- what holds of each tile of a machine, which is its part p
 pub record GoodTile (n : ShapeNumbers) (p : ℕ) (v : TileView) : Type 0 where
-  pub shape : v.shape ≡ n
+  pub shape : v.plan.shape ≡ n
   pub shaped : WellShaped v
-  pub kept : WellKept v.pool
-  pub part : tile_part (tile_place n v.tile) ≡ p
-  pub home : HomeTile (board_of v.tile) v.pending v.transit
+  pub kept : WellKept v.now.pool
+  pub part : tile_part (tile_place n v.plan.tile) ≡ p
+  pub home : HomeTile (board_of v.plan.tile) v.now.pending v.now.node.out
+
+-- another state of the tile
+pub good_now : (n : ShapeNumbers) (p : ℕ) (v : TileView) (s : TileState) → GoodTile n p v → IsFit v.plan s → WellKept s.pool → HomeTile (board_of v.plan.tile) s.pending s.node.out → GoodTile n p (with_now v s)
+good_now n p v s t fit kept home = record { shape = t.shape; shaped = record { tile = t.shaped.tile; fits = fit }; kept = kept; part = t.part; home = home }
 
 -- what holds of each router of a machine with these tables
 pub record GoodRouter (n : ShapeNumbers) (tables : List Table) (v : RouterView) : Type 0 where
-  pub shape : v.shape ≡ n
+  pub shape : v.plan.shape ≡ n
   pub shaped : RouterShaped v
-  pub beats : v.beats ≡ table_of n tables v.board
+  pub beats : v.plan.beats ≡ table_of n tables v.plan.board
 
 abbrev pub is_tile : Kind → Bool
 is_tile kind.Host = false
@@ -87,12 +91,12 @@ GoodPart n tables p AbsentV = Unit {0}
 
 -- a part stands at a place of its kind
 abbrev pub StandsAt : Kind → PartView → Type 0
-StandsAt (kind.Tile tile) (TileV v) = v.tile ≡ tile.0
+StandsAt (kind.Tile tile) (TileV v) = v.plan.tile ≡ tile.0
 StandsAt (kind.Tile tile) (RouterV v) = ⊥
 StandsAt (kind.Tile tile) (LinkV x) = ⊥
 StandsAt (kind.Tile tile) AbsentV = ⊥
 StandsAt (kind.Router board) (TileV v) = ⊥
-StandsAt (kind.Router board) (RouterV v) = v.board ≡ board
+StandsAt (kind.Router board) (RouterV v) = v.plan.board ≡ board
 StandsAt (kind.Router board) (LinkV x) = ⊥
 StandsAt (kind.Router board) AbsentV = ⊥
 StandsAt (kind.Link from onto) (TileV v) = ⊥
@@ -148,7 +152,7 @@ tile_on w p v g on = part_on w p (TileV v) g on
 -- the thread at an address is on the tile, at place k
 pub record Stands (n : ShapeNumbers) (v : TileView) (a k : ℕ) : Type 0 where
   pub there : IsTrue (has_thread n a)
-  pub tile : tile_of a ≡ v.tile
+  pub tile : tile_of a ≡ v.plan.tile
   pub place : place_in_tile n a ≡ k
 
 abbrev pub with_tile : WorldView → ℕ → TileView → WorldView
@@ -167,12 +171,12 @@ pub part_is : (w : WorldView) (p a k : ℕ) (v : TileView) → Good w → On w p
 part_is w p a k v g on s = ap (λ t. tile_part (tile_place w.shape t)) s.tile ∙ (tile_on w p v g on).part
 
 -- the threads of one part are on one tile
-pub on_tile : (w : WorldView) (p b : ℕ) (v : TileView) → Good w → On w p v → IsTrue (has_thread w.shape b) → part_for w b ≡ p → tile_of b ≡ v.tile
+pub on_tile : (w : WorldView) (p b : ℕ) (v : TileView) → Good w → On w p v → IsTrue (has_thread w.shape b) → part_for w b ≡ p → tile_of b ≡ v.plan.tile
 on_tile w p b v g on h e =
     let t = tile_on w p v g on in
-    let there : IsTrue (has_tile w.shape v.tile) = subst (λ n. IsTrue (has_tile n v.tile)) t.shape t.shaped.tile in
-    let same : tile_place w.shape (tile_of b) ≡ tile_place w.shape v.tile = let part = t.part in omega arith in
-    sym ((tile_found w.shape (tile_of b) g.limits (fields w.shape b h).tile).1) ∙ (ap (tile_at w.shape) same ∙ (tile_found w.shape v.tile g.limits there).1)
+    let there : IsTrue (has_tile w.shape v.plan.tile) = subst (λ n. IsTrue (has_tile n v.plan.tile)) t.shape t.shaped.tile in
+    let same : tile_place w.shape (tile_of b) ≡ tile_place w.shape v.plan.tile = let part = t.part in omega arith in
+    sym ((tile_found w.shape (tile_of b) g.limits (fields w.shape b h).tile).1) ∙ (ap (tile_at w.shape) same ∙ (tile_found w.shape v.plan.tile g.limits there).1)
 
 -- and at different places
 pub other_place : (w : WorldView) (p a k b : ℕ) (v : TileView) → Good w → On w p v → Stands w.shape v a k → IsTrue (has_thread w.shape b) → part_for w b ≡ p → b ≢ a → place_in_tile w.shape b ≢ k
@@ -224,10 +228,10 @@ lift_same g w p v new on all b h = elim (cases_eq (part_for w b) p) [
 ]
 
 -- the code stays, so the program does
-code_stays : (w : WorldView) (p : ℕ) (v new : TileView) → On w p v → new.code ≡ v.code → (b : ℕ) → (tile_for (with_tile w p new) b).code ≡ (tile_for w b).code
+code_stays : (w : WorldView) (p : ℕ) (v new : TileView) → On w p v → new.plan.code ≡ v.plan.code → (b : ℕ) → (tile_for (with_tile w p new) b).plan.code ≡ (tile_for w b).plan.code
 code_stays w p v new on e b = elim (cases_eq (part_for w b) p) [
-  | inr far ↦ ap (λ (t : TileView). t.code) (tile_other w p new b far)
-  | inl near ↦ ap (λ (t : TileView). t.code) (tile_here w p new b on.within near) ∙ (e ∙ sym (ap (λ (t : TileView). t.code) (tile_is w p v b on near)))
+  | inr far ↦ ap (λ (t : TileView). t.plan.code) (tile_other w p new b far)
+  | inl near ↦ ap (λ (t : TileView). t.plan.code) (tile_here w p new b on.within near) ∙ (e ∙ sym (ap (λ (t : TileView). t.plan.code) (tile_is w p v b on near)))
 ]
 
 -- ---- another part in a place
@@ -288,7 +292,7 @@ no_beats w p v new on = sym (ap beats_on on.is)
 pub tile_reach : (w : WorldView) (p : ℕ) (v new : TileView) → On w p v → reach_of (with_tile w p new) ≡ reach_of w
 tile_reach w p v new on = reach_stays w p (TileV new) on.within (no_beats w p v new on)
 
-pub program_stays : (w : WorldView) (p : ℕ) (v new : TileView) → On w p v → new.code ≡ v.code → program_of (with_tile w p new) ≡ program_of w
+pub program_stays : (w : WorldView) (p : ℕ) (v new : TileView) → On w p v → new.plan.code ≡ v.plan.code → program_of (with_tile w p new) ≡ program_of w
 program_stays w p v new on e = λ i. record { shape = w.shape; code = λ b. code_stays w p v new on e b i; reach = tile_reach w p v new on i }
 
 pub tile_stands : (f : Letter → ℕ) (w : WorldView) (p : ℕ) (v new : TileView) (x y : ℕ) → On w p v →
@@ -303,14 +307,14 @@ pub on_new : (w : WorldView) (p : ℕ) (v new : TileView) → On w p v → On (w
 on_new w p v new on = record { within = let l = length-set w.parts p (TileV new) in let h = on.within in omega arith; below = on.below; is = get_or-set_same w.parts p (TileV new) AbsentV on.within }
 
 -- two tiles of one part are the same one
-same_tile : (n : ShapeNumbers) (p : ℕ) (v u : TileView) → WithinLimits n → GoodTile n p v → GoodTile n p u → u.tile ≡ v.tile
+same_tile : (n : ShapeNumbers) (p : ℕ) (v u : TileView) → WithinLimits n → GoodTile n p v → GoodTile n p u → u.plan.tile ≡ v.plan.tile
 same_tile n p v u limits t s =
-    let here : IsTrue (has_tile n v.tile) = subst (λ m. IsTrue (has_tile m v.tile)) t.shape t.shaped.tile in
-    let there : IsTrue (has_tile n u.tile) = subst (λ m. IsTrue (has_tile m u.tile)) s.shape s.shaped.tile in
-    let same : tile_place n u.tile ≡ tile_place n v.tile = let a = t.part in let b = s.part in omega arith in
-    sym ((tile_found n u.tile limits there).1) ∙ (ap (tile_at n) same ∙ (tile_found n v.tile limits here).1)
+    let here : IsTrue (has_tile n v.plan.tile) = subst (λ m. IsTrue (has_tile m v.plan.tile)) t.shape t.shaped.tile in
+    let there : IsTrue (has_tile n u.plan.tile) = subst (λ m. IsTrue (has_tile m u.plan.tile)) s.shape s.shaped.tile in
+    let same : tile_place n u.plan.tile ≡ tile_place n v.plan.tile = let a = t.part in let b = s.part in omega arith in
+    sym ((tile_found n u.plan.tile limits there).1) ∙ (ap (tile_at n) same ∙ (tile_found n v.plan.tile limits here).1)
 
-still_tile : (k : Kind) (v new : TileView) → new.tile ≡ v.tile → StandsAt k (TileV v) → StandsAt k (TileV new)
+still_tile : (k : Kind) (v new : TileView) → new.plan.tile ≡ v.plan.tile → StandsAt k (TileV v) → StandsAt k (TileV new)
 still_tile kind.Host v new e h = absurd h
 still_tile (kind.Tile tile) v new e h = e ∙ h
 still_tile (kind.Router board) v new e h = absurd h

@@ -188,7 +188,7 @@ works_set f on n b table port.HostPort o p is = omega arith
 works_set f on n b table port.Down o p is = absurd is
 works_set f on n b table port.Here o p is = absurd is
 
-pub outs_set : (f : Letter → ℕ) (on : Reach) (n : ShapeNumbers) (b : Board) (way : Port) (o : Option Packet) (out : Buffers) → IsOut way →
+pub outs_set : (f : Letter → ℕ) (on : Reach) (n : ShapeNumbers) (b : Board) (way : Port) (o : Option Packet) (out : Ports Packet) → IsOut way →
     outs_w f on n b (with_buffer way o out) + out_w f on n b way (buffer_at way out) ≡ outs_w f on n b out + out_w f on n b way o
 outs_set f on n b port.East o out is = omega arith
 outs_set f on n b port.West o out is = omega arith
@@ -209,7 +209,7 @@ side_there port.HostPort p w e = tt
 side_there port.Down p w e = cc e
 side_there port.Here p w e = cc e
 
-pub way_there : (way : Port) (b : Buffers) (k : Packet) → buffer_at way b ≡ Some k → IsOut way
+pub way_there : (way : Port) (b : Ports Packet) (k : Packet) → buffer_at way b ≡ Some k → IsOut way
 way_there port.East b k e = tt
 way_there port.West b k e = tt
 way_there port.South b k e = tt
@@ -223,7 +223,7 @@ none_from : (o : Option Packet) → is_none o ≡ true → o ≡ None
 none_from None e = refl
 none_from (Some x) e = cc e
 
-sent_more : (f : Letter → ℕ) (on : Reach) (n : ShapeNumbers) (b : Board) (p : Packet) (o : Option Sent) (out : Buffers) → SentFrom p o → has_room o out ≡ true → outs_w f on n b (with_sent o out) ≡ outs_w f on n b out + sent_w f on n b o
+sent_more : (f : Letter → ℕ) (on : Reach) (n : ShapeNumbers) (b : Board) (p : Packet) (o : Option Sent) (out : Ports Packet) → SentFrom p o → has_room o out ≡ true → outs_w f on n b (with_sent o out) ≡ outs_w f on n b out + sent_w f on n b o
 sent_more f on n b p None out from room = omega arith
 sent_more f on n b p (Some s) out from room =
     let a = outs_set f on n b s.way (Some s.packet) out from.1 in
@@ -235,20 +235,20 @@ sent_more f on n b p (Some s) out from room =
 pub record MovesSo (v : RouterView) (m : Move) : Type 0 where
   pub side : Port
   pub work : Work
-  pub there : work_at side v.process ≡ Some work
-  pub is : m ≡ move_of v.shape v.board v.beats side work
-  pub room : has_room m.sent v.out ≡ true
+  pub there : work_at side v.now.inputs ≡ Some work
+  pub is : m ≡ move_of v.plan.shape v.plan.board v.plan.beats side work
+  pub room : has_room m.sent v.now.node.out ≡ true
 
 move_so : (b : Bool) (x m : Move) → cond b (Some x) None ≡ Some m → (b ≡ true) × (x ≡ m)
 move_so true x m e = (refl, ap (λ (o : Option Move). unwrap_or o m) e)
 move_so false x m e = cc e
 
-moved_with : (side : Port) (o : Option Work) (v : RouterView) (m : Move) → work_at side v.process ≡ o → move_with side o v ≡ Some m → MovesSo v m
+moved_with : (side : Port) (o : Option Work) (v : RouterView) (m : Move) → work_at side v.now.inputs ≡ o → move_with side o v ≡ Some m → MovesSo v m
 moved_with side None v m e is = cc is
 moved_with side (Some w) v m e is =
-    let x : Move = move_of v.shape v.board v.beats side w in
-    let so = move_so (has_room x.sent v.out) x m is in
-    record { side = side; work = w; there = e; is = sym so.1; room = ap (λ (y : Move). has_room y.sent v.out) (sym so.1) ∙ so.0 }
+    let x : Move = move_of v.plan.shape v.plan.board v.plan.beats side w in
+    let so = move_so (has_room x.sent v.now.node.out) x m is in
+    record { side = side; work = w; there = e; is = sym so.1; room = ap (λ (y : Move). has_room y.sent v.now.node.out) (sym so.1) ∙ so.0 }
 
 moved_or : (a others : Option Move) (v : RouterView) (m : Move) → (a ≡ Some m → MovesSo v m) → (others ≡ Some m → MovesSo v m) → or_else a others ≡ Some m → MovesSo v m
 moved_or None others v m first rest e = rest e
@@ -256,30 +256,30 @@ moved_or (Some x) others v m first rest e = first e
 
 first_moves : (order : List Port) (v : RouterView) (m : Move) → first_of order v ≡ Some m → MovesSo v m
 first_moves [] v m e = cc e
-first_moves (side ∷ others) v m e = moved_or (move_at side v) (first_of others v) v m (λ here. moved_with side (work_at side v.process) v m refl here) (λ rest. first_moves others v m rest) e
+first_moves (side ∷ others) v m e = moved_or (move_at side v) (first_of others v) v m (λ here. moved_with side (work_at side v.now.inputs) v m refl here) (λ rest. first_moves others v m rest) e
 
 pub moves_so : (v : RouterView) (m : Move) → first_move v ≡ Some m → MovesSo v m
 moves_so v m e = first_moves sides v m e
 
-route_at : (f : Letter → ℕ) (tables : List Table) (v : RouterView) (m : Move) → WithinLimits v.shape → Accepted v.shape tables → WellShaped v → v.beats ≡ table_of v.shape tables v.board → MovesSo v m → router_w f (reach v.shape tables) (carried v m) ≡ router_w f (reach v.shape tables) v
+route_at : (f : Letter → ℕ) (tables : List Table) (v : RouterView) (m : Move) → WithinLimits v.plan.shape → Accepted v.plan.shape tables → WellShaped v → v.plan.beats ≡ table_of v.plan.shape tables v.plan.board → MovesSo v m → router_w f (reach v.plan.shape tables) (carried v m) ≡ router_w f (reach v.plan.shape tables) v
 route_at f tables v m limits accepted shaped beats s =
-    let on : Reach = reach v.shape tables in
-    let n : ShapeNumbers = v.shape in
-    let b : Board = v.board in
-    let x : Move = move_of n b v.beats s.side s.work in
-    let from : MovesFrom s.side s.work x = from_to n b v.beats s.side s.work s.work.packet.dest in
-    let fits : FitsWork n v.beats s.work = work_fits v s.side s.work shaped s.there in
-    let weighs : Weighs f on n b v.beats s.work x = subst (λ t. FitsWork n t s.work → Weighs f on n b t s.work (move_of n b t s.side s.work)) (sym beats)
+    let on : Reach = reach v.plan.shape tables in
+    let n : ShapeNumbers = v.plan.shape in
+    let b : Board = v.plan.board in
+    let x : Move = move_of n b v.plan.beats s.side s.work in
+    let from : MovesFrom s.side s.work x = from_to n b v.plan.beats s.side s.work s.work.packet.dest in
+    let fits : FitsWork n v.plan.beats s.work = work_fits v s.side s.work shaped s.there in
+    let weighs : Weighs f on n b v.plan.beats s.work x = subst (λ t. FitsWork n t s.work → Weighs f on n b t s.work (move_of n b t s.side s.work)) (sym beats)
     (λ h. move_weighs f n tables b s.side s.work limits accepted shaped.board h) fits in
-    let sent = sent_more f on n b s.work.packet x.sent v.out from.sent (ap (λ (y : Move). has_room y.sent v.out) (sym s.is) ∙ s.room) in
-    let set = works_set f on n b v.beats s.side x.work v.process (side_there s.side v.process s.work s.there) in
-    let was : work_w f on n b v.beats (work_at s.side v.process) ≡ work_w f on n b v.beats (Some s.work) = ap (work_w f on n b v.beats) s.there in
-    let side : works_w f on n b v.beats (with_work x.side x.work v.process) ≡ works_w f on n b v.beats (with_work s.side x.work v.process) = ap (λ z. works_w f on n b v.beats (with_work z x.work v.process)) from.side_is in
+    let sent = sent_more f on n b s.work.packet x.sent v.now.node.out from.sent (ap (λ (y : Move). has_room y.sent v.now.node.out) (sym s.is) ∙ s.room) in
+    let set = works_set f on n b v.plan.beats s.side x.work v.now.inputs (side_there s.side v.now.inputs s.work s.there) in
+    let was : work_w f on n b v.plan.beats (work_at s.side v.now.inputs) ≡ work_w f on n b v.plan.beats (Some s.work) = ap (work_w f on n b v.plan.beats) s.there in
+    let side : works_w f on n b v.plan.beats (with_work x.side x.work v.now.inputs) ≡ works_w f on n b v.plan.beats (with_work s.side x.work v.now.inputs) = ap (λ z. works_w f on n b v.plan.beats (with_work z x.work v.now.inputs)) from.side_is in
     let all : router_w f on (carried v x) ≡ router_w f on v = omega arith in
     ap (λ (y : Move). router_w f on (carried v y)) s.is ∙ all
 
 -- a Route changes no letter
-pub route_weighs : (f : Letter → ℕ) (n : ShapeNumbers) (tables : List Table) (v : RouterView) (m : Move) → v.shape ≡ n → WithinLimits n → Accepted n tables → WellShaped v → v.beats ≡ table_of n tables v.board → MovesSo v m → router_w f (reach n tables) (carried v m) ≡ router_w f (reach n tables) v
+pub route_weighs : (f : Letter → ℕ) (n : ShapeNumbers) (tables : List Table) (v : RouterView) (m : Move) → v.plan.shape ≡ n → WithinLimits n → Accepted n tables → WellShaped v → v.plan.beats ≡ table_of n tables v.plan.board → MovesSo v m → router_w f (reach n tables) (carried v m) ≡ router_w f (reach n tables) v
 route_weighs f n tables v m same limits accepted shaped beats s =
-    subst (λ k. WithinLimits k → Accepted k tables → v.beats ≡ table_of k tables v.board → router_w f (reach k tables) (carried v m) ≡ router_w f (reach k tables) v) same
+    subst (λ k. WithinLimits k → Accepted k tables → v.plan.beats ≡ table_of k tables v.plan.board → router_w f (reach k tables) (carried v m) ≡ router_w f (reach k tables) v) same
     (λ l a b. route_at f tables v m l a shaped b s) limits accepted beats

@@ -34,7 +34,7 @@ use Rattle.tn_tile.proofs.Steps.{taken}
 use Rattle.tn_rows.specs.Events.{Met, met_by, met_with, with_both, with_part}
 use Rattle.tn_rows.specs.PartView.{RouterV, LinkV}
 use Rattle.tn_rows.specs.Places.{link_side, link_way}
-use Rattle.tn_rows.specs.SamePacket.{is_packet}
+use Rattle.tn_node.specs.SamePacket.{is_packet}
 use Rattle.tn_rows.specs.WorldView.{WorldView}
 use Rattle.tn_rows.proofs.Meeting.{mapped, met_rows}
 use Rattle.tn_letters.specs.Letters.{link_board}
@@ -66,14 +66,14 @@ still_reached got dropped w there s = becomes_reached got dropped w there [] (ap
 router_on : (w : WorldView) (p : ℕ) (v : RouterView) → Good w → OnRouter w p v → GoodRouter w.shape (tables_of w) v
 router_on w p v good on = part_on w p (RouterV v) good on
 
-still_router : (k : Kind) (v new : RouterView) → new.board ≡ v.board → StandsAt k (RouterV v) → StandsAt k (RouterV new)
+still_router : (k : Kind) (v new : RouterView) → new.plan.board ≡ v.plan.board → StandsAt k (RouterV v) → StandsAt k (RouterV new)
 still_router kind.Host v new e h = absurd h
 still_router (kind.Tile tile) v new e h = absurd h
 still_router (kind.Router board) v new e h = e ∙ h
 still_router (kind.Link from onto) v new e h = absurd h
 still_router kind.Detector v new e h = absurd h
 
-router_shifts : (w : WorldView) (p : ℕ) (v new : RouterView) (came gone : (Letter → ℕ) → ℕ) → Good w → OnRouter w p v → new.shape ≡ v.shape → new.board ≡ v.board → new.beats ≡ v.beats → WellShaped new →
+router_shifts : (w : WorldView) (p : ℕ) (v new : RouterView) (came gone : (Letter → ℕ) → ℕ) → Good w → OnRouter w p v → new.plan.shape ≡ v.plan.shape → new.plan.board ≡ v.plan.board → new.plan.beats ≡ v.plan.beats → WellShaped new →
     ((f : Letter → ℕ) → came f + router_w f (reach_of w) v ≡ gone f + router_w f (reach_of w) new) → Shifts w p (RouterV v) (RouterV new) came gone
 router_shifts w p v new came gone good on shape board beats shaped weighs =
     let t = router_on w p v good on in
@@ -136,7 +136,7 @@ not_held false o k e = e
 
 -- where the way leads to a router, it leads to that of this board
 abbrev pub LeadsTo : RouterView → Port → Board → Type 0
-LeadsTo v way c = leads_on way ≡ true → board_on v.shape v.board way ≡ Some c
+LeadsTo v way c = leads_on way ≡ true → board_on v.plan.shape v.plan.board way ≡ Some c
 
 keyed_leads : (b c : Bool) → (not b || c) ≡ true → b ≡ true → c ≡ true
 keyed_leads true true e h = refl
@@ -147,18 +147,18 @@ depart_reached : (got : ℕ → List Letter) (dropped : List Letter) (w : WorldV
     (leads_to_tile w.shape (kind_of w.shape q) ≡ true → leads_on way ≡ false) → offered way v ≡ Some k → depart_row way v ≡ Some new → put_in k x ≡ Some y → there ≡ with_part (with_part w p (RouterV new)) q (LinkV y) → Reached got dropped w [] there
 depart_reached got dropped w p q v new x y way k there good on off leads down offer row put is =
     let t = router_on w p v good on in
-    let n : ShapeNumbers = v.shape in
-    let here : buffer_at way v.out ≡ Some k = not_held v.held (buffer_at way v.out) k offer in
-    let fits : FitsWay n v.board way k = subst (λ (o : Option Packet). MatchOption o (Unit {0}) (FitsWay n v.board way)) here (t.shaped.waits way) in
+    let n : ShapeNumbers = v.plan.shape in
+    let here : at way v.now.node.out ≡ Some k = not_held v.now.node.held (at way v.now.node.out) k offer in
+    let fits : FitsWay n v.plan.board way k = subst (λ (o : Option Packet). MatchOption o (Unit {0}) (FitsWay n v.plan.board way)) here (t.shaped.waits way) in
     let d = departs way v (ap (λ (o : Option RouterView). is_some o) row) in
-    let gone : RouterView = record v { out = with_buffer way None v.out; counter = v.counter +ℤ pos 1 } in
+    let gone : RouterView = @@record v { out = with_buffer way None v.now.node.out; counter = v.now.node.counter +ℤ pos 1 } in
     let same : gone ≡ new = ap (λ (o : Option RouterView). unwrap_or o new) (sym d.row ∙ row) in
-    let shaped : WellShaped gone = notes_shaped (record v { out = with_buffer way None v.out }) (v.counter +ℤ pos 1) v.black v.held v.ended (gone_shaped v way t.shaped) in
+    let shaped : WellShaped gone = notes_shaped (@@record v { out = with_buffer way None v.now.node.out }) (v.now.node.counter +ℤ pos 1) v.now.node.black v.now.node.held v.now.ended (gone_shaped v way t.shaped) in
     let low : Shifts w p (RouterV v) (RouterV gone) nothing (on_link w q k) = router_shifts w p v gone nothing (on_link w q k) good on refl refl refl shaped
     (λ f.
-    let set = outs_set f (reach_of w) n v.board way None v.out (way_there way v.out k here) in
-    let was : out_w f (reach_of w) n v.board way (buffer_at way v.out) ≡ out_w f (reach_of w) n v.board way (Some k) = ap (out_w f (reach_of w) n v.board way) here in
-    let weighs = out_weighs f n (reach_of w) v.board (link_board w.shape q) way k (subst WithinLimits (sym t.shape) good.limits) fits.0 (λ keyed. leads (keyed_leads (is_keyed k.dest) (leads_on way) fits.1 keyed)) in
+    let set = outs_set f (reach_of w) n v.plan.board way None v.now.node.out (way_there way v.now.node.out k here) in
+    let was : out_w f (reach_of w) n v.plan.board way (at way v.now.node.out) ≡ out_w f (reach_of w) n v.plan.board way (Some k) = ap (out_w f (reach_of w) n v.plan.board way) here in
+    let weighs = out_weighs f n (reach_of w) v.plan.board (link_board w.shape q) way k (subst WithinLimits (sym t.shape) good.limits) fits.0 (λ keyed. leads (keyed_leads (is_keyed k.dest) (leads_on way) fits.1 keyed)) in
     let shape : crossing_w f (link_board w.shape q) n (reach_of w) k ≡ on_link w q k f = ap (λ m. crossing_w f (link_board w.shape q) m (reach_of w) k) t.shape in
     omega arith) in
     let home : leads_to_tile w.shape (kind_of w.shape q) ≡ true → Homed (link_board w.shape q) k = λ tile keyed. absurd (no_both (leads_on way) (keyed_leads (is_keyed k.dest) (leads_on way) fits.1 keyed) (down tile)) in
@@ -171,20 +171,20 @@ depart_reached got dropped w p q v new x y way k there good on off leads down of
     no_both : (b : Bool) → b ≡ true → b ≡ false → ⊥
     no_both b e f = cc (e, f)
 
-depart_by : (got : ℕ → List Letter) (dropped : List Letter) (w : WorldView) (p q : ℕ) (v : RouterView) (x : LinkView) (m : Met) (here there : PartId) (o : Option Packet) → Good w → OnRouter w p v → OnLink w q x → LeadsTo v (link_way v.shape there.0) (link_board w.shape q) →
-    (leads_to_tile w.shape (kind_of w.shape q) ≡ true → leads_on (link_way v.shape there.0) ≡ false) → offered (link_way v.shape there.0) v ≡ o →
+depart_by : (got : ℕ → List Letter) (dropped : List Letter) (w : WorldView) (p q : ℕ) (v : RouterView) (x : LinkView) (m : Met) (here there : PartId) (o : Option Packet) → Good w → OnRouter w p v → OnLink w q x → LeadsTo v (link_way v.plan.shape there.0) (link_board w.shape q) →
+    (leads_to_tile w.shape (kind_of w.shape q) ≡ true → leads_on (link_way v.plan.shape there.0) ≡ false) → offered (link_way v.plan.shape there.0) v ≡ o →
     met_with (event.Depart here there) (RouterV v) (LinkV x) (option_map crossing.Packet o) ≡ Some m → Reached got dropped w [] (with_both w p q m)
 depart_by got dropped w p q v x m here there None good on off leads down offer is = cc is
 depart_by got dropped w p q v x m here there (Some k) good on off leads down offer is =
-    let way : Port = link_way v.shape there.0 in
+    let way : Port = link_way v.plan.shape there.0 in
     let b = both_rows (cond (is_packet k (offered way v)) (depart_row way v) None) (put_in k x) m is in
     let row = taken (is_packet k (offered way v)) (depart_row way v) b.new b.router in
     depart_reached got dropped w p q v b.new x b.next way k (with_both w p q m) good on off leads down offer row.1 b.link (pair_is w p q b.new b.next m b.low b.high)
 
-pub departure_reached : (got : ℕ → List Letter) (dropped : List Letter) (w : WorldView) (p q : ℕ) (v : RouterView) (x : LinkView) (m : Met) (here there : PartId) → Good w → OnRouter w p v → OnLink w q x → LeadsTo v (link_way v.shape there.0) (link_board w.shape q) →
-    (leads_to_tile w.shape (kind_of w.shape q) ≡ true → leads_on (link_way v.shape there.0) ≡ false) →
-    met_with (event.Depart here there) (RouterV v) (LinkV x) (option_map crossing.Packet (offered (link_way v.shape there.0) v)) ≡ Some m → Reached got dropped w [] (with_both w p q m)
-departure_reached got dropped w p q v x m here there good on off leads down is = depart_by got dropped w p q v x m here there (offered (link_way v.shape there.0) v) good on off leads down refl is
+pub departure_reached : (got : ℕ → List Letter) (dropped : List Letter) (w : WorldView) (p q : ℕ) (v : RouterView) (x : LinkView) (m : Met) (here there : PartId) → Good w → OnRouter w p v → OnLink w q x → LeadsTo v (link_way v.plan.shape there.0) (link_board w.shape q) →
+    (leads_to_tile w.shape (kind_of w.shape q) ≡ true → leads_on (link_way v.plan.shape there.0) ≡ false) →
+    met_with (event.Depart here there) (RouterV v) (LinkV x) (option_map crossing.Packet (offered (link_way v.plan.shape there.0) v)) ≡ Some m → Reached got dropped w [] (with_both w p q m)
+departure_reached got dropped w p q v x m here there good on off leads down is = depart_by got dropped w p q v x m here there (offered (link_way v.plan.shape there.0) v) good on off leads down refl is
 
 -- ---- an arrival
 
@@ -202,24 +202,24 @@ empty_place : {A : Type 0} (o : Option A) → is_none o ≡ true → o ≡ None
 empty_place None e = refl
 empty_place (Some x) e = cc e
 
-arrive_reached : (got : ℕ → List Letter) (dropped : List Letter) (w : WorldView) (p q : ℕ) (v new : RouterView) (x y : LinkView) (side : Port) (k : Packet) (there : WorldView) → Good w → OnRouter w p v → OnLink w q x → link_board w.shape q ≡ v.board →
+arrive_reached : (got : ℕ → List Letter) (dropped : List Letter) (w : WorldView) (p q : ℕ) (v new : RouterView) (x y : LinkView) (side : Port) (k : Packet) (there : WorldView) → Good w → OnRouter w p v → OnLink w q x → link_board w.shape q ≡ v.plan.board →
     front_of x ≡ Some k → accept_row side k v ≡ Some new → take_from x ≡ Some y → there ≡ with_part (with_part w p (RouterV new)) q (LinkV y) → Reached got dropped w [] there
 arrive_reached got dropped w p q v new x y side k there good on off board front row take is =
     let t = router_on w p v good on in
-    let n : ShapeNumbers = v.shape in
+    let n : ShapeNumbers = v.plan.shape in
     let a = accepts side k v (ap (λ (o : Option RouterView). is_some o) row) in
     let came : RouterView = arrived side k v in
     let same : came ≡ new = ap (λ (o : Option RouterView). unwrap_or o new) (sym a.row ∙ row) in
     let tests = and_parts (can_accept side k v) _ (taken _ (Some (arrived side k v)) new row).0 in
-    let parts = and_parts (has_side n v.board side && is_none (work_at side v.process)) (has_packet n k) tests.0 in
-    let place = and_parts (has_side n v.board side) (is_none (work_at side v.process)) parts.0 in
-    let shaped : WellShaped came = notes_shaped (record v { process = with_work side (Some (started v.beats k)) v.process }) came.counter true v.held v.ended (work_shaped v side (Some (started v.beats k)) a.fits t.shaped) in
+    let parts = and_parts (has_side n v.plan.board side && is_none (work_at side v.now.inputs)) (has_packet n k) tests.0 in
+    let place = and_parts (has_side n v.plan.board side) (is_none (work_at side v.now.inputs)) parts.0 in
+    let shaped : WellShaped came = notes_shaped (@@record v { process = with_work side (Some (started v.plan.beats k)) v.now.inputs }) came.counter true v.now.node.held v.now.ended (work_shaped v side (Some (started v.plan.beats k)) a.fits t.shaped) in
     let low : Shifts w p (RouterV v) (RouterV came) (on_link w q k) nothing = router_shifts w p v came (on_link w q k) nothing good on refl refl refl shaped
     (λ f.
-    let set = works_set f (reach_of w) n v.board v.beats side (Some (started v.beats k)) v.process (side_is side n v.board place.0) in
-    let none : work_w f (reach_of w) n v.board v.beats (work_at side v.process) ≡ 0 = ap (work_w f (reach_of w) n v.board v.beats) (empty_place (work_at side v.process) place.1) in
-    let weighs : work_w f (reach_of w) n v.board v.beats (Some (started v.beats k)) ≡ crossing_w f v.board n (reach_of w) k = came_weighs f w v k good t parts.1 in
-    let shape : crossing_w f v.board n (reach_of w) k ≡ on_link w q k f = ap (λ m. crossing_w f v.board m (reach_of w) k) t.shape ∙ ap (λ (c : Board). crossing_w f c w.shape (reach_of w) k) (sym board) in
+    let set = works_set f (reach_of w) n v.plan.board v.plan.beats side (Some (started v.plan.beats k)) v.now.inputs (side_is side n v.plan.board place.0) in
+    let none : work_w f (reach_of w) n v.plan.board v.plan.beats (work_at side v.now.inputs) ≡ 0 = ap (work_w f (reach_of w) n v.plan.board v.plan.beats) (empty_place (work_at side v.now.inputs) place.1) in
+    let weighs : work_w f (reach_of w) n v.plan.board v.plan.beats (Some (started v.plan.beats k)) ≡ crossing_w f v.plan.board n (reach_of w) k = came_weighs f w v k good t parts.1 in
+    let shape : crossing_w f v.plan.board n (reach_of w) k ≡ on_link w q k f = ap (λ m. crossing_w f v.plan.board m (reach_of w) k) t.shape ∙ ap (λ (c : Board). crossing_w f c w.shape (reach_of w) k) (sym board) in
     omega arith) in
     let homes = home_take w.shape q k x y front take (part_on w q (LinkV x) good off) in
     let high : Shifts w q (LinkV x) (LinkV y) nothing (on_link w q k) = link_shifts w q x y nothing (on_link w q k) good off homes.1
@@ -228,20 +228,20 @@ arrive_reached got dropped w p q v new x y side k there good on off board front 
     (both_shifted w p q (RouterV v) (LinkV x) (RouterV came) (LinkV y) (on_link w q k) nothing good (two_parts w p q (RouterV v) (LinkV x) on off (λ e. cc e)) low high there
     (is ∙ ap (λ (z : RouterView). with_part (with_part w p (RouterV z)) q (LinkV y)) (sym same)))
   where
-    came_weighs : (f : Letter → ℕ) (w : WorldView) (v : RouterView) (k : Packet) → Good w → GoodRouter w.shape (tables_of w) v → IsTrue (has_packet v.shape k) → work_w f (reach_of w) v.shape v.board v.beats (Some (started v.beats k)) ≡ crossing_w f v.board v.shape (reach_of w) k
+    came_weighs : (f : Letter → ℕ) (w : WorldView) (v : RouterView) (k : Packet) → Good w → GoodRouter w.shape (tables_of w) v → IsTrue (has_packet v.plan.shape k) → work_w f (reach_of w) v.plan.shape v.plan.board v.plan.beats (Some (started v.plan.beats k)) ≡ crossing_w f v.plan.board v.plan.shape (reach_of w) k
     came_weighs f w v k good t fits =
-        subst (λ m. Accepted m (tables_of w) → v.beats ≡ table_of m (tables_of w) v.board → work_w f (reach m (tables_of w)) v.shape v.board v.beats (Some (started v.beats k)) ≡ crossing_w f v.board v.shape (reach m (tables_of w)) k) t.shape
-        (λ accepted beats. started_weighs f v.shape (tables_of w) v.board v.beats k (subst WithinLimits (sym t.shape) good.limits) accepted t.shaped.board beats fits) good.accepted t.beats
+        subst (λ m. Accepted m (tables_of w) → v.plan.beats ≡ table_of m (tables_of w) v.plan.board → work_w f (reach m (tables_of w)) v.plan.shape v.plan.board v.plan.beats (Some (started v.plan.beats k)) ≡ crossing_w f v.plan.board v.plan.shape (reach m (tables_of w)) k) t.shape
+        (λ accepted beats. started_weighs f v.plan.shape (tables_of w) v.plan.board v.plan.beats k (subst WithinLimits (sym t.shape) good.limits) accepted t.shaped.board beats fits) good.accepted t.beats
 
-arrive_by : (got : ℕ → List Letter) (dropped : List Letter) (w : WorldView) (p q : ℕ) (v : RouterView) (x : LinkView) (m : Met) (there here : PartId) (o : Option Packet) → Good w → OnRouter w p v → OnLink w q x → link_board w.shape q ≡ v.board → front_of x ≡ o →
+arrive_by : (got : ℕ → List Letter) (dropped : List Letter) (w : WorldView) (p q : ℕ) (v : RouterView) (x : LinkView) (m : Met) (there here : PartId) (o : Option Packet) → Good w → OnRouter w p v → OnLink w q x → link_board w.shape q ≡ v.plan.board → front_of x ≡ o →
     met_with (event.Arrive there here) (RouterV v) (LinkV x) (option_map crossing.Packet o) ≡ Some m → Reached got dropped w [] (with_both w p q m)
 arrive_by got dropped w p q v x m there here None good on off board front is = cc is
 arrive_by got dropped w p q v x m there here (Some k) good on off board front is =
-    let side : Port = link_side v.shape there.0 in
+    let side : Port = link_side v.plan.shape there.0 in
     let b = both_rows (accept_row side k v) (cond (is_packet k (front_of x)) (take_from x) None) m is in
     let take = taken (is_packet k (front_of x)) (take_from x) b.next b.link in
     arrive_reached got dropped w p q v b.new x b.next side k (with_both w p q m) good on off board front b.router take.1 (pair_is w p q b.new b.next m b.low b.high)
 
-pub arrival_reached : (got : ℕ → List Letter) (dropped : List Letter) (w : WorldView) (p q : ℕ) (v : RouterView) (x : LinkView) (m : Met) (there here : PartId) → Good w → OnRouter w p v → OnLink w q x → link_board w.shape q ≡ v.board →
+pub arrival_reached : (got : ℕ → List Letter) (dropped : List Letter) (w : WorldView) (p q : ℕ) (v : RouterView) (x : LinkView) (m : Met) (there here : PartId) → Good w → OnRouter w p v → OnLink w q x → link_board w.shape q ≡ v.plan.board →
     met_with (event.Arrive there here) (RouterV v) (LinkV x) (option_map crossing.Packet (front_of x)) ≡ Some m → Reached got dropped w [] (with_both w p q m)
 arrival_reached got dropped w p q v x m there here good on off board is = arrive_by got dropped w p q v x m there here (front_of x) good on off board refl is

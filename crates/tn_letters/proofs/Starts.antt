@@ -48,7 +48,7 @@ use Rattle.tn_letters.proofs.Simulate.{shown}
 use Rattle.tn_letters.proofs.Walks.{run_reached}
 
 -- a tile that fits its part is the part's
-fits_tile : (n : ShapeNumbers) (p : ℕ) (v : TileView) (k : Kind) → kind_of n p ≡ k → FitsKind n k (TileV v) → (tile : TileId) × (kind_of n p ≡ kind.Tile tile) × (v.shape ≡ n) × (v.tile ≡ tile.0)
+fits_tile : (n : ShapeNumbers) (p : ℕ) (v : TileView) (k : Kind) → kind_of n p ≡ k → FitsKind n k (TileV v) → (tile : TileId) × (kind_of n p ≡ kind.Tile tile) × (v.plan.shape ≡ n) × (v.plan.tile ≡ tile.0)
 fits_tile n p v (kind.Tile tile) e f = (tile, e, f.0, f.1)
 fits_tile n p v kind.Host e f = absurd f
 fits_tile n p v (kind.Router board) e f = absurd f
@@ -93,19 +93,19 @@ good_tile w p v s limits on =
     let count = s.world.count in
     let f = fits_tile n p v (kind_of n p) refl (subst (FitsKind n (kind_of n p)) on.is (s.world.each p (omega arith))) in
     let t : TilePart n p f.0 = tile_part_is n p f.0 f.1 in
-    let at : v.tile ≡ tile_at n t.i = f.3 ∙ t.is in
-    let there : IsTrue (has_tile n v.tile) = subst (λ x. IsTrue (has_tile n x)) (sym at) ((orders_tiles n limits).there t.i t.below) in
+    let at : v.plan.tile ≡ tile_at n t.i = f.3 ∙ t.is in
+    let there : IsTrue (has_tile n v.plan.tile) = subst (λ x. IsTrue (has_tile n x)) (sym at) ((orders_tiles n limits).there t.i t.below) in
     let fresh : StartsSo n (TileV v) = subst (StartsSo n) on.is (s.parts p within) in
     record {
       shape = f.2;
-      shaped = subst (λ (x : TileView). WellShaped x) (sym fresh.3) (fresh_shaped n v.tile fresh.0 fresh.1 there fresh.2);
+      shaped = subst (λ (x : TileView). WellShaped x) (sym fresh.3) (fresh_shaped n v.plan.tile fresh.0 fresh.1 there fresh.2);
       kept = subst (λ (x : TileView). WellKept x.pool) (sym fresh.3) (fresh_kept n.slots (tile_threads n) (slot_bytes n) (limits.slots.1) (few_places n limits) (slot_room n));
       part = ap (λ x. tile_part (tile_place n x)) at ∙ (ap tile_part (tile_placed n t.i limits t.below) ∙ t.part);
-      home = subst (λ (x : TileView). HomeTile (board_of v.tile) x.pending x.transit) (sym fresh.3) (nobody_home (board_of v.tile) (tile_threads n));
+      home = subst (λ (x : TileView). HomeTile (board_of v.plan.tile) x.pending x.transit) (sym fresh.3) (nobody_home (board_of v.plan.tile) (tile_threads n));
     }
 
 -- a router that fits its part is that of the part's board
-fits_router : (n : ShapeNumbers) (p : ℕ) (v : RouterView) (k : Kind) → kind_of n p ≡ k → FitsKind n k (RouterV v) → (kind_of n p ≡ kind.Router v.board) × (v.shape ≡ n)
+fits_router : (n : ShapeNumbers) (p : ℕ) (v : RouterView) (k : Kind) → kind_of n p ≡ k → FitsKind n k (RouterV v) → (kind_of n p ≡ kind.Router v.plan.board) × (v.plan.shape ≡ n)
 fits_router n p v (kind.Router board) e f = (e ∙ ap kind.Router (sym f.1), f.0)
 fits_router n p v kind.Host e f = absurd f
 fits_router n p v (kind.Tile tile) e f = absurd f
@@ -155,12 +155,12 @@ good_router w p v s limits on =
     let within : p < length w.parts = on.within in
     let count = s.world.count in
     let f = fits_router n p v (kind_of n p) refl (subst (FitsKind n (kind_of n p)) on.is (s.world.each p (omega arith))) in
-    let t : RouterPart n p v.board = router_part_is n p v.board f.0 in
+    let t : RouterPart n p v.plan.board = router_part_is n p v.plan.board f.0 in
     let fresh : StartsSo n (RouterV v) = subst (StartsSo n) on.is (s.parts p within) in
-    let board : HasBoard n v.board = subst (HasBoard n) t.is (board_there n t.i limits t.below) in
+    let board : HasBoard n v.plan.board = subst (HasBoard n) t.is (board_there n t.i limits t.below) in
     record {
       shape = f.1;
-      shaped = subst (λ (x : RouterView). RouterShaped x) (sym fresh.1) (fresh_shape n v.board fresh.0 board);
+      shaped = subst (λ (x : RouterView). RouterShaped x) (sym fresh.1) (fresh_shape n v.plan.board fresh.0 board);
       beats = sym (ap (table_of n (tables_of w)) (sym t.is) ∙ (table_there w t.i t.below ∙ (ap (λ i. beats_on (get_or w.parts i AbsentV)) t.part ∙ ap beats_on on.is)));
     }
 

@@ -75,7 +75,7 @@ reached_join got dropped u v w xs ys x y = record {
 
 -- ---- a turn
 
-pub acted_tile : (k : ℕ) (t : Thread) (o : Op) (v : TileView) → (acted k t o v).tile ≡ v.tile
+pub acted_tile : (k : ℕ) (t : Thread) (o : Op) (v : TileView) → (acted k t o v).tile ≡ v.plan.tile
 acted_tile k t op.None v = refl
 acted_tile k t (op.Send to bytes) v = refl
 acted_tile k t op.Hand v = refl
@@ -91,13 +91,13 @@ turn_reached zero got dropped w p a k v new c is =
     let back : w ≡ with_tile w p v = ap (λ ps. record w { parts = ps }) (sym (ap (λ x. set w.parts p x) (sym c.on.is) ∙ set-get_or w.parts p AbsentV)) in
     subst (λ x. Reached got dropped w [] (with_tile w p x)) same (subst (λ (x : WorldView). Reached got dropped w [] x) back (reached_none got dropped w c.good))
 turn_reached (suc n) got dropped w p a k v new c is =
-    let first = taken (can_step k v) (steps_of k n (stepped k v)) new is in
+    let first = taken (can_step v.plan.shape.fuel k v.now) (steps_of k n (stepped k v)) new is in
     let mid : WorldView = with_tile w p (stepped k v) in
     let one = step_reached got dropped w p a k v c first.0 in
     let there : Place mid p (stepped k v) a k = record {
       good = one.good;
       on = on_new w p v (stepped k v) c.on;
-      stands = record { there = c.stands.there; tile = c.stands.tile ∙ sym (acted_tile k (thread_at v k) (step_at_place k v).op (with_thread k (step_at_place k v).thread v)); place = c.stands.place };
+      stands = record { there = c.stands.there; tile = c.stands.tile ∙ sym (acted_tile k (thread_at v.now k) (step_at_place v.plan.code k v.now).op (with_thread k (step_at_place v.plan.code k v.now).thread v)); place = c.stands.place };
     } in
     let rest = turn_reached n one.now one.gone mid p a k (stepped k v) new there first.1 in
     reached_join got dropped w mid (with_tile w p new) (thread_step a k v) (turn_steps a k n (stepped k v)) one
@@ -110,7 +110,7 @@ first_of_four true b c d e = refl
 first_of_four false b c d e = cc e
 
 -- the thread of an event on the tile of a part is at its place there
-here_is : (w : WorldView) (p a : ℕ) (v : TileView) → Good w → On w p v → is_here a v ≡ true → Place w p v a (place_in_tile v.shape a)
+here_is : (w : WorldView) (p a : ℕ) (v : TileView) → Good w → On w p v → is_here a v ≡ true → Place w p v a (place_in_tile v.plan.shape a)
 here_is w p a v good on here =
     let t = tile_on w p v good on in
     let parts = and_parts _ _ here in
@@ -122,11 +122,11 @@ here_is w p a v good on here =
 
 row_reached : (got : ℕ → List Letter) (dropped : List Letter) (e : Event) (w : WorldView) (p : ℕ) (v new : TileView) → Good w → On w p v → tile_row e crossing.None v ≡ Some new → Reached got dropped w (tile_steps (reach_of w) e v) (with_tile w p new)
 row_reached got dropped (event.Turn t n) w p v new good on row =
-    let yes = taken _ (steps_of (place_in_tile v.shape t.0) n v) new row in
-    turn_reached n got dropped w p t.0 (place_in_tile v.shape t.0) v new (here_is w p t.0 v good on (first_of_four (is_here t.0 v) _ _ _ yes.0)) yes.1
+    let yes = taken _ (steps_of (place_in_tile v.plan.shape t.0) n v) new row in
+    turn_reached n got dropped w p t.0 (place_in_tile v.plan.shape t.0) v new (here_is w p t.0 v good on (first_of_four (is_here t.0 v) _ _ _ yes.0)) yes.1
 row_reached got dropped (event.Deliver t) w p v new good on row =
-    let yes = taken _ (delivered_from (place_in_tile v.shape t.0) (pending_at v (place_in_tile v.shape t.0)) v) new row in
-    delivery_reached got dropped w p t.0 (place_in_tile v.shape t.0) v new (here_is w p t.0 v good on (and_parts _ _ yes.0).0) yes.1
+    let yes = taken _ (delivered_from (place_in_tile v.plan.shape t.0) (pending_at v.now (place_in_tile v.plan.shape t.0)) v) new row in
+    delivery_reached got dropped w p t.0 (place_in_tile v.plan.shape t.0) v new (here_is w p t.0 v good on (and_parts _ _ yes.0).0) yes.1
 row_reached got dropped (event.Depart x y) w p v new good on row = cc row
 row_reached got dropped (event.Arrive x y) w p v new good on row = cc row
 row_reached got dropped (event.Route x) w p v new good on row = cc row
@@ -232,14 +232,14 @@ only_link n p q (kind.Router board) part leads e low stands x is = subst (Stands
 only_link n p q kind.Detector part leads e low stands x is = subst (StandsAt kind.Detector) is stands
 
 -- the parts at the ends of a link
-tile_at : (k : Kind) (v : TileView) → StandsAt k (TileV v) → (tile : TileId) × (k ≡ kind.Tile tile) × (v.tile ≡ tile.0)
+tile_at : (k : Kind) (v : TileView) → StandsAt k (TileV v) → (tile : TileId) × (k ≡ kind.Tile tile) × (v.plan.tile ≡ tile.0)
 tile_at (kind.Tile tile) v stands = (tile, refl, stands)
 tile_at kind.Host v stands = absurd stands
 tile_at (kind.Router board) v stands = absurd stands
 tile_at (kind.Link from onto) v stands = absurd stands
 tile_at kind.Detector v stands = absurd stands
 
-router_at : (k : Kind) (v : RouterView) → StandsAt k (RouterV v) → k ≡ kind.Router v.board
+router_at : (k : Kind) (v : RouterView) → StandsAt k (RouterV v) → k ≡ kind.Router v.plan.board
 router_at (kind.Router board) v stands = ap kind.Router (sym stands)
 router_at kind.Host v stands = absurd stands
 router_at (kind.Tile tile) v stands = absurd stands
@@ -273,38 +273,38 @@ down_only b (kind.Link from onto) is = cc is
 down_only b kind.Detector is = cc is
 
 -- the link from a tile leads to its board
-tile_departs : (w : WorldView) (p q : ℕ) (v : TileView) → Good w → On w p v → DepartsBy w.shape p q → link_board w.shape q ≡ board_of v.tile
+tile_departs : (w : WorldView) (p q : ℕ) (v : TileView) → Good w → On w p v → DepartsBy w.shape p q → link_board w.shape q ≡ board_of v.plan.tile
 tile_departs w p q v good on d =
     let n : ShapeNumbers = w.shape in
     let t = tile_at (kind_of n p) v (stands_on w p (TileV v) good on) in
     let near : Near n (kind.Tile t.0) (kind_of n d.onto.0) = subst (λ k. Near n k (kind_of n d.onto.0)) (ap (kind_of n) d.at ∙ t.1) (links_near n q d.from d.onto good.limits d.is) in
     ahead n q d.from d.onto d.is ∙ (from_tile n t.0 (kind_of n d.onto.0) near ∙ ap board_of (sym t.2))
 
-way_is : (w : WorldView) (p q : ℕ) (v : RouterView) → Good w → OnPart w p (RouterV v) → (d : DepartsBy w.shape p q) → link_way w.shape q ≡ way_between (kind.Router v.board) (kind_of w.shape d.onto.0)
+way_is : (w : WorldView) (p q : ℕ) (v : RouterView) → Good w → OnPart w p (RouterV v) → (d : DepartsBy w.shape p q) → link_way w.shape q ≡ way_between (kind.Router v.plan.board) (kind_of w.shape d.onto.0)
 way_is w p q v good on d =
     let n : ShapeNumbers = w.shape in
     ap (way_of_kind n) d.is ∙ ap (λ k. way_between k (kind_of n d.onto.0)) (ap (kind_of n) d.at ∙ router_at (kind_of n p) v (stands_on w p (RouterV v) good on))
 
 -- the link from a router leads where its way does
-router_departs : (w : WorldView) (p q : ℕ) (v : RouterView) → Good w → OnPart w p (RouterV v) → DepartsBy w.shape p q → leads_on (link_way w.shape q) ≡ true → board_on w.shape v.board (link_way w.shape q) ≡ Some (link_board w.shape q)
+router_departs : (w : WorldView) (p q : ℕ) (v : RouterView) → Good w → OnPart w p (RouterV v) → DepartsBy w.shape p q → leads_on (link_way w.shape q) ≡ true → board_on w.shape v.plan.board (link_way w.shape q) ≡ Some (link_board w.shape q)
 router_departs w p q v good on d leads =
     let n : ShapeNumbers = w.shape in
     let way = way_is w p q v good on d in
-    let near : Near n (kind.Router v.board) (kind_of n d.onto.0) = subst (λ k. Near n k (kind_of n d.onto.0)) (ap (kind_of n) d.at ∙ router_at (kind_of n p) v (stands_on w p (RouterV v) good on)) (links_near n q d.from d.onto good.limits d.is) in
-    ap (board_on n v.board) way ∙ (from_router n v.board (kind_of n d.onto.0) near (sym (ap leads_on way) ∙ leads) ∙ ap (λ b. Some b) (sym (ahead n q d.from d.onto d.is)))
+    let near : Near n (kind.Router v.plan.board) (kind_of n d.onto.0) = subst (λ k. Near n k (kind_of n d.onto.0)) (ap (kind_of n) d.at ∙ router_at (kind_of n p) v (stands_on w p (RouterV v) good on)) (links_near n q d.from d.onto good.limits d.is) in
+    ap (board_on n v.plan.board) way ∙ (from_router n v.plan.board (kind_of n d.onto.0) near (sym (ap leads_on way) ∙ leads) ∙ ap (λ b. Some b) (sym (ahead n q d.from d.onto d.is)))
 
 router_down : (w : WorldView) (p q : ℕ) (v : RouterView) → Good w → OnPart w p (RouterV v) → DepartsBy w.shape p q → leads_to_tile w.shape (kind_of w.shape q) ≡ true → leads_on (link_way w.shape q) ≡ false
 router_down w p q v good on d tile =
-    ap leads_on (way_is w p q v good on d) ∙ down_only v.board (kind_of w.shape d.onto.0) (sym (ap (leads_to_tile w.shape) d.is) ∙ tile)
+    ap leads_on (way_is w p q v good on d) ∙ down_only v.plan.board (kind_of w.shape d.onto.0) (sym (ap (leads_to_tile w.shape) d.is) ∙ tile)
 
-tile_arrives : (w : WorldView) (p q : ℕ) (v : TileView) → Good w → On w p v → ArrivesBy w.shape p q → (link_board w.shape q ≡ board_of v.tile) × (leads_to_tile w.shape (kind_of w.shape q) ≡ true)
+tile_arrives : (w : WorldView) (p q : ℕ) (v : TileView) → Good w → On w p v → ArrivesBy w.shape p q → (link_board w.shape q ≡ board_of v.plan.tile) × (leads_to_tile w.shape (kind_of w.shape q) ≡ true)
 tile_arrives w p q v good on d =
     let n : ShapeNumbers = w.shape in
     let t = tile_at (kind_of n p) v (stands_on w p (TileV v) good on) in
     let here : kind_of n d.onto.0 ≡ kind.Tile t.0 = ap (kind_of n) d.at ∙ t.1 in
     (ahead n q d.from d.onto d.is ∙ (ap kind_board here ∙ ap board_of (sym t.2)), ap (leads_to_tile n) d.is ∙ ap is_tile here)
 
-router_arrives : (w : WorldView) (p q : ℕ) (v : RouterView) → Good w → OnPart w p (RouterV v) → ArrivesBy w.shape p q → link_board w.shape q ≡ v.board
+router_arrives : (w : WorldView) (p q : ℕ) (v : RouterView) → Good w → OnPart w p (RouterV v) → ArrivesBy w.shape p q → link_board w.shape q ≡ v.plan.board
 router_arrives w p q v good on d =
     let n : ShapeNumbers = w.shape in
     ahead n q d.from d.onto d.is ∙ ap kind_board (ap (kind_of n) d.at ∙ router_at (kind_of n p) v (stands_on w p (RouterV v) good on))
@@ -339,9 +339,9 @@ depart_pair got dropped w new here there p q (TileV v) (LinkV x) good on off at 
     subst (λ (z : WorldView). Reached got dropped w [] z) m.2 (departure_reached got dropped w p q v x m.0 here there good on off (tile_departs w p q v good on d) m.1)
 depart_pair got dropped w new here there p q (RouterV v) (LinkV x) good on off at d link is =
     let m = did_meet w new p q (meets (event.Depart here there) (RouterV v) (LinkV x)) is in
-    let way : link_way v.shape there.0 ≡ link_way w.shape q = ap (λ n. link_way n there.0) (part_on w p (RouterV v) good on).shape ∙ ap (link_way w.shape) at in
-    let leads : LeadsTo v (link_way v.shape there.0) (link_board w.shape q) = λ on_way.
-    ap (λ n. board_on n v.board (link_way v.shape there.0)) (part_on w p (RouterV v) good on).shape ∙ (ap (board_on w.shape v.board) way ∙ router_departs w p q v good on d (sym (ap leads_on way) ∙ on_way)) in
+    let way : link_way v.plan.shape there.0 ≡ link_way w.shape q = ap (λ n. link_way n there.0) (part_on w p (RouterV v) good on).shape ∙ ap (link_way w.shape) at in
+    let leads : LeadsTo v (link_way v.plan.shape there.0) (link_board w.shape q) = λ on_way.
+    ap (λ n. board_on n v.plan.board (link_way v.plan.shape there.0)) (part_on w p (RouterV v) good on).shape ∙ (ap (board_on w.shape v.plan.board) way ∙ router_departs w p q v good on d (sym (ap leads_on way) ∙ on_way)) in
     subst (λ (z : WorldView). Reached got dropped w [] z) m.2
     (router_departure got dropped w p q v x m.0 here there good on off leads (λ tile. ap leads_on way ∙ router_down w p q v good on d tile) m.1)
 depart_pair got dropped w new here there p q (LinkV y) (LinkV x) good on off at d link is =

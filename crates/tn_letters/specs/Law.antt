@@ -15,16 +15,16 @@ use Rattle.tn_thread.specs.declared.thread.Thread.{Thread}
 use Rattle.tn_tile.specs.Kept.{AreStarts, fresh_tile}
 use Rattle.tn_letters.specs.Letters.{SameBag}
 use Rattle.tn_letters.specs.Machine.{BagRun}
-use Rattle.tn_letters.specs.Standing.{bag_at, standing_letters}
+use Rattle.tn_letters.specs.Standing.{bag_at}
 use Rattle.tn_letters.specs.State.{Agree, BagState}
 use Rattle.tn_letters.specs.Steps.{bag_of}
-use Rattle.tn_letters.specs.Tiles.{held_of, program_of, tables_of, thread_of}
+use Rattle.tn_letters.specs.Tiles.{program_of, tables_of}
 
 -- a tile at its start is over some code, with its threads at their start; a router has some table, and like a link it
 -- holds no packet
 abbrev pub StartsSo : ShapeNumbers → PartView → Type 0
-StartsSo n (TileV v) = (words : List ℕ) × (threads : List Thread) × AreStarts n v.tile threads × (v ≡ fresh_tile n v.tile words threads)
-StartsSo n (RouterV v) = (beats : Table) × (v ≡ fresh_router n v.board beats)
+StartsSo n (TileV v) = (words : List ℕ) × (threads : List Thread) × AreStarts n v.plan.tile threads × (v ≡ fresh_tile n v.plan.tile words threads)
+StartsSo n (RouterV v) = (beats : Table) × (v ≡ fresh_router n v.plan.board beats)
 StartsSo n (LinkV v) = v ≡ record { packets = []; capacity = n.link }
 StartsSo n AbsentV = Unit {0}
 
@@ -37,7 +37,7 @@ pub record IsStart (w : WorldView) : Type 0 where
 
 -- how many letters were dropped on a part, and on all parts
 abbrev pub dropped_on : PartView → ℕ
-dropped_on (TileV v) = v.dropped
+dropped_on (TileV v) = v.now.dropped
 dropped_on (RouterV v) = 0
 dropped_on (LinkV v) = 0
 dropped_on AbsentV = 0
@@ -45,12 +45,12 @@ dropped_on AbsentV = 0
 abbrev pub dropped_in : WorldView → ℕ
 dropped_in w = sum_by dropped_on w.parts
 
--- a machine shows a state of the bag machine: the threads, what they hold, the letters in flight in named places, and how
--- many letters were dropped
+-- a machine shows a state of the bag machine: threads, holdings, flight, host and script are those of `bag_at`, and as many
+-- letters were dropped
 pub record Shows (w : WorldView) (s : BagState) : Type 0 where
-  pub threads : Agree w.shape s.threads (thread_of w)
-  pub held : (a slot : ℕ) → IsTrue (has_thread w.shape a) → s.held a slot ≡ held_of w a slot
-  pub flight : SameBag s.flight (standing_letters w)
+  pub threads : Agree w.shape s.threads (bag_at w).threads
+  pub held : (a slot : ℕ) → IsTrue (has_thread w.shape a) → s.held a slot ≡ (bag_at w).held a slot
+  pub flight : SameBag s.flight (bag_at w).flight
   pub host : s.host ≡ (bag_at w).host
   pub script : s.script ≡ (bag_at w).script
   pub dropped : length s.dropped ≡ dropped_in w

@@ -12,12 +12,11 @@ use Rattle.tn_base.specs.Parts.{part_count}
 use Rattle.tn_link.specs.LinkView.{LinkView}
 use Rattle.tn_router.specs.declared.work.Work.{Work}
 use Rattle.tn_router.specs.Left.{copies_left, copies_out}
-use Rattle.tn_router.specs.Places.{buffer_at as waits_for, work_at}
+use Rattle.tn_node.specs.PortRows.{at as waits_for}
 use Rattle.tn_router.specs.RouterView.{RouterView}
 use Rattle.tn_rows.specs.PartView.{PartView, TileV, RouterV, LinkV, AbsentV}
 use Rattle.tn_rows.specs.WorldView.{WorldView}
 use Rattle.tn_slots.specs.Pool.{slot_at}
-use Rattle.tn_tile.specs.Rows.{buffer_at}
 use Rattle.tn_tile.specs.Step.{pending_at}
 use Rattle.tn_tile.specs.TileView.{TileView}
 use Rattle.tn_letters.specs.declared.place.Place.{Place}
@@ -35,11 +34,11 @@ waiting n reach at (Some p) = map (λ l. (at, l)) (packet_letters n reach p)
 
 -- of the packet that the thread at a place of a tile sent
 abbrev pub pending_of : Reach → TileView → ℕ → List (Place × Letter)
-pending_of reach v k = waiting v.shape reach (place.Pending (record { 0 = in_tile v.shape v.tile k })) (pending_at v k)
+pending_of reach v k = waiting v.plan.shape reach (place.Pending (record { 0 = in_tile v.plan.shape v.plan.tile k })) (pending_at v.now k)
 
 -- of the packets that the threads of a tile sent, by thread
 abbrev pub pending_standing : Reach → TileView → List (Place × Letter)
-pending_standing reach v = each_below (tile_threads v.shape) (pending_of reach v)
+pending_standing reach v = each_below (tile_threads v.plan.shape) (pending_of reach v)
 
 -- the ways out in their order
 abbrev pub ports : List Port
@@ -47,19 +46,19 @@ ports = port.East ∷ port.West ∷ port.South ∷ port.North ∷ port.Up ∷ po
 
 -- of the packets that go on from a tile, by way out
 abbrev pub transit_standing : Reach → ℕ → TileView → List (Place × Letter)
-transit_standing reach p v = flat_map (λ way. waiting v.shape reach (place.Transit (record { 0 = p }) way) (buffer_at way v.transit)) ports
+transit_standing reach p v = flat_map (λ way. waiting v.plan.shape reach (place.Transit (record { 0 = p }) way) (waits_for way v.now.node.out)) ports
 
 -- in a slot: a letter for the thread at a place, where it is owed the slot and did not take it
 abbrev pub owed_to : TileView → ℕ → ℕ → List (Place × Letter)
 owed_to v s k =
-    only_if (bit_at (slot_at v.pool s).owed k == 1) (place.Slot (record { 0 = v.tile }) s (record { 0 = in_tile v.shape v.tile k }), letter_in v k s)
+    only_if (bit_at (slot_at v.now.pool s).owed k == 1) (place.Slot (record { 0 = v.plan.tile }) s (record { 0 = in_tile v.plan.shape v.plan.tile k }), letter_in v k s)
 
 -- in a slot: for each thread that is owed it, by thread
 abbrev pub owed_standing : TileView → ℕ → List (Place × Letter)
-owed_standing v s = each_below (tile_threads v.shape) (owed_to v s)
+owed_standing v s = each_below (tile_threads v.plan.shape) (owed_to v s)
 
 abbrev pub slots_standing : TileView → List (Place × Letter)
-slots_standing v = each_below (length v.pool.slots) (owed_standing v)
+slots_standing v = each_below (length v.now.pool.slots) (owed_standing v)
 
 -- on a tile, which has this part's number
 abbrev pub tile_standing : Reach → ℕ → TileView → List (Place × Letter)
@@ -81,21 +80,21 @@ copied at p copies = map (λ c. (at, letter_for p.origin p.number c)) copies
 -- of the packet that waits in a router for a way out. Its key is looked up at the router to which it goes
 abbrev pub leaving_by : Reach → ℕ → RouterView → Port → Option Packet → List (Place × Letter)
 leaving_by reach p v way None = []
-leaving_by reach p v way (Some k) = copied (place.Transit (record { 0 = p }) way) k (copies_out reach v.shape v.board way k)
+leaving_by reach p v way (Some k) = copied (place.Transit (record { 0 = p }) way) k (copies_out reach v.plan.shape v.plan.board way k)
 
 -- of the packets that wait in a router, by way out
 abbrev pub out_standing : Reach → ℕ → RouterView → List (Place × Letter)
-out_standing reach p v = flat_map (λ way. leaving_by reach p v way (waits_for way v.out)) ports
+out_standing reach p v = flat_map (λ way. leaving_by reach p v way (waits_for way v.now.node.out)) ports
 
 -- of the packet in process that came from a side: the copies still to come, those of its next records or, without a key,
 -- its own
 abbrev pub works_from : Reach → ℕ → RouterView → Port → Option Work → List (Place × Letter)
 works_from reach p v side None = []
-works_from reach p v side (Some w) = copied (place.InProcess (record { 0 = p }) side) w.packet (copies_left reach v.shape v.board v.beats w)
+works_from reach p v side (Some w) = copied (place.InProcess (record { 0 = p }) side) w.packet (copies_left reach v.plan.shape v.plan.board v.plan.beats w)
 
 -- of the packets in process, by side
 abbrev pub process_standing : Reach → ℕ → RouterView → List (Place × Letter)
-process_standing reach p v = flat_map (λ side. works_from reach p v side (work_at side v.process)) ports
+process_standing reach p v = flat_map (λ side. works_from reach p v side (waits_for side v.now.inputs)) ports
 
 -- on a router, which has this part's number
 abbrev pub router_standing : Reach → ℕ → RouterView → List (Place × Letter)

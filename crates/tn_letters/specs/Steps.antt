@@ -19,7 +19,7 @@ use Rattle.tn_slots.specs.Pool.{key_for, queue_at}
 use Rattle.tn_slots.specs.Queues.{first_of}
 use Rattle.tn_tile.specs.Receivers.{is_dead}
 use Rattle.tn_tile.specs.Step.{pending_at, step_at_place, stepped, thread_at}
-use Rattle.tn_tile.specs.TileView.{TileView}
+use Rattle.tn_tile.specs.TileView.{TileView, with_now}
 use Rattle.tn_letters.specs.declared.steps.BagStep.{BagStep}
 use Rattle.tn_letters.specs.declared.steps.BagStep.TheVariants as bag
 use Rattle.tn_letters.specs.declared.steps.Seen.{Seen}
@@ -30,18 +30,18 @@ use Rattle.tn_letters.specs.Tiles.{letter_in, reach_of}
 -- what the tile shows to the thread at a place
 abbrev pub seen_at : TileView → ℕ → Seen
 seen_at v k = record {
-  can_send = is_none (pending_at v k);
-  first = first_of (queue_at v.pool k);
-  key = key_for v.pool k;
+  can_send = is_none (pending_at v.now k);
+  first = first_of (queue_at v.now.pool k);
+  key = key_for v.now.pool k;
 }
 
 -- the letters of the queue of the thread at a place, first to last
 abbrev pub queued : TileView → ℕ → List Letter
-queued v k = map (letter_in v k) (queue_at v.pool k)
+queued v k = map (letter_in v k) (queue_at v.now.pool k)
 
 -- the letter that the thread at a place would be handed
 abbrev pub first_letter : TileView → ℕ → Letter
-first_letter v k = letter_in v k (unwrap_or (first_of (queue_at v.pool k)) 0)
+first_letter v k = letter_in v k (unwrap_or (first_of (queue_at v.now.pool k)) 0)
 
 -- the step of the thread at an address, by what it asks for
 abbrev pub step_by : ℕ → Seen → Letter → Op → BagStep
@@ -61,20 +61,24 @@ dropped_by letters _ = []
 -- one step of the thread at a place, which has this address
 abbrev pub thread_step : ℕ → ℕ → TileView → List BagStep
 thread_step a k v =
-    step_by a (seen_at v k) (first_letter v k) (step_at_place k v).op ∷ dropped_by (queued v k) (step_at_place k v).op
+    step_by a (seen_at v k) (first_letter v k) (step_at_place v.plan.code k v.now).op ∷ dropped_by (queued v k) (step_at_place v.plan.code k v.now).op
 
--- a turn: so many steps of one thread
+-- the tile after one step of the thread at a place
+abbrev pub after_step : ℕ → TileView → TileView
+after_step k v = with_now v (stepped v.plan.code k v.now)
+
+-- a turn: n steps of one thread
 unfoldable pub turn_steps : ℕ → ℕ → ℕ → TileView → List BagStep
 turn_steps a k zero v = []
-turn_steps a k (suc n) v = thread_step a k v ++ turn_steps a k n (stepped k v)
+turn_steps a k (suc n) v = thread_step a k v ++ turn_steps a k n (after_step k v)
 
 -- the thread of the tile that a letter is for has ended
 abbrev pub is_for_dead : TileView → Letter → Bool
-is_for_dead v l = is_dead (thread_at v (place_in_tile v.shape l.receiver)).state
+is_for_dead v l = is_dead (thread_at v.now (place_in_tile v.plan.shape l.receiver)).state
 
 -- a packet whose receivers are on the tile: its letters for threads that ended are dropped
 abbrev pub dropped_at : Port → Reach → Packet → TileView → List BagStep
-dropped_at port.Here reach p v = map bag.Discard (filter (is_for_dead v) (packet_letters v.shape reach p))
+dropped_at port.Here reach p v = map bag.Discard (filter (is_for_dead v) (packet_letters v.plan.shape reach p))
 dropped_at port.East reach p v = []
 dropped_at port.West reach p v = []
 dropped_at port.South reach p v = []
@@ -85,12 +89,12 @@ dropped_at port.HostPort reach p v = []
 
 abbrev pub delivery_steps : Reach → Option Packet → TileView → List BagStep
 delivery_steps reach None v = []
-delivery_steps reach (Some p) v = dropped_at (tile_port v.tile p.dest) reach p v
+delivery_steps reach (Some p) v = dropped_at (tile_port v.plan.tile p.dest) reach p v
 
 -- the steps that an event on one tile is; it is a turn or a delivery. What a router does by itself is no step
 abbrev pub tile_steps : Reach → Event → TileView → List BagStep
-tile_steps reach (event.Turn t n) v = turn_steps t.0 (place_in_tile v.shape t.0) n v
-tile_steps reach (event.Deliver t) v = delivery_steps reach (pending_at v (place_in_tile v.shape t.0)) v
+tile_steps reach (event.Turn t n) v = turn_steps t.0 (place_in_tile v.plan.shape t.0) n v
+tile_steps reach (event.Deliver t) v = delivery_steps reach (pending_at v.now (place_in_tile v.plan.shape t.0)) v
 tile_steps reach _ v = []
 
 abbrev pub part_steps : Reach → Event → Option PartView → List BagStep

@@ -7,7 +7,7 @@ use Rattle.tn_base.specs.Address.{in_tile, place_in_tile, tile_of, tile_place}
 use Rattle.tn_base.specs.Parts.{board_count, router_part, tile_part}
 use Rattle.tn_slots.specs.Pool.{slot_at}
 use Rattle.tn_thread.specs.declared.thread.Thread.{Thread}
-use Rattle.tn_tile.specs.declared.tile.Sender.{Sender}
+use Rattle.tn_tile.specs.declared.sender.Sender.{Sender}
 use Rattle.tn_tile.specs.Kept.{fresh_tile}
 use Rattle.tn_tile.specs.Step.{no_thread, thread_at}
 use Rattle.tn_tile.specs.TileView.{TileView}
@@ -35,21 +35,24 @@ part_for w a = tile_part (tile_place w.shape (tile_of a))
 abbrev pub tile_for : WorldView → ℕ → TileView
 tile_for w a = tile_in (slice_index_or w.parts (part_for w a) AbsentV)
 
--- the thread at an address
+-- the thread at a place of a tile, and at an address
+abbrev pub thread_in : TileView → ℕ → Thread
+thread_in v k = thread_at v.now k
+
 abbrev pub thread_of : WorldView → ℕ → Thread
-thread_of w a = thread_at (tile_for w a) (place_in_tile w.shape a)
+thread_of w a = thread_in (tile_for w a) (place_in_tile w.shape a)
 
 -- whose packet a slot has
 abbrev pub sender_at : TileView → ℕ → Sender
-sender_at v s = slice_index_or v.senders s (record { origin = 0; number = 0 })
+sender_at v s = slice_index_or v.now.senders s (record { origin = 0; number = 0 })
 
 -- the letter that a slot has for the thread at a place of the tile
 abbrev pub letter_in : TileView → ℕ → ℕ → Letter
-letter_in v k s = letter (sender_at v s).origin (sender_at v s).number (in_tile v.shape v.tile k) (slot_at v.pool s).bytes
+letter_in v k s = letter (sender_at v s).origin (sender_at v s).number (in_tile v.plan.shape v.plan.tile k) (slot_at v.now.pool s).bytes
 
 -- the letter that the thread at a place has in a slot, where it holds the slot
 abbrev pub held_in : TileView → ℕ → ℕ → Option Letter
-held_in v k s = if bit_at (slot_at v.pool s).holders k == 1 then Some (letter_in v k s) else None
+held_in v k s = if bit_at (slot_at v.now.pool s).holders k == 1 then Some (letter_in v k s) else None
 
 abbrev pub held_of : WorldView → ℕ → ℕ → Option Letter
 held_of w a s = held_in (tile_for w a) (place_in_tile w.shape a) s
@@ -57,7 +60,7 @@ held_of w a s = held_in (tile_for w a) (place_in_tile w.shape a) s
 -- the beats of the router that a part is
 abbrev pub beats_on : PartView → Table
 beats_on (TileV v) = []
-beats_on (RouterV v) = v.beats
+beats_on (RouterV v) = v.plan.beats
 beats_on (LinkV v) = []
 beats_on AbsentV = []
 
@@ -71,4 +74,4 @@ reach_of w = reach w.shape (tables_of w)
 
 -- what no event changes
 abbrev pub program_of : WorldView → Program
-program_of w = record { shape = w.shape; code = λ a. (tile_for w a).code; reach = reach_of w }
+program_of w = record { shape = w.shape; code = λ a. (tile_for w a).plan.code; reach = reach_of w }
