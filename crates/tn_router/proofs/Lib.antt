@@ -1,5 +1,11 @@
 pub mod Toward
 pub mod Firsts
 pub mod Placed
+pub mod Moved
+pub mod Shaped
+pub mod Searched
 pub mod Resting
 pub mod There
+pub mod Keyed
+pub mod Conserved
+pub mod Deeds

@@ -1,5 +1,5 @@
 -- What holds of every router.
-use Rattle.std.specs.Prelude.{ℕ, ◌+◌, ◌==◌, ◌&&◌, ◌||◌, Bool, true, false, IsTrue, List, [], ◌∷◌, MatchOption, None, length, nat_le, nat_lt, not, pos, slice_index_or, ⊤}
+use Rattle.std.specs.Prelude.{ℕ, ◌+◌, ◌==◌, ◌&&◌, ◌||◌, Bool, true, false, IsTrue, List, [], ◌∷◌, MatchOption, None, length, nat_le, nat_lt, not, slice_index_or, ⊤}
 use Rattle.tn_base.specs.declared.ids.Board.{Board}
 use Rattle.tn_base.specs.declared.message.Dest.{Dest}
 use Rattle.tn_base.specs.declared.message.Dest.TheVariants as dest

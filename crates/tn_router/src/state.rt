@@ -161,9 +161,7 @@ impl RouterState {
     pub(crate) fn same(&self, other: &RouterState) -> bool
         ensures { IsTrue result ↔ (self.now ≡ other.now) }
     {
-        self.ended == other.ended
-            && self.node.same(&other.node)
-            && self.inputs.same(&other.inputs)
+        self.ended == other.ended && self.node.same(&other.node) && self.inputs.same(&other.inputs)
     }
 }
 

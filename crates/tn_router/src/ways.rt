@@ -1,9 +1,10 @@
 //! The way out that the next move of a packet in process needs.
 
-ghost use Rattle.std.specs.Prelude.{◌≡◌, IsTrue};
+ghost use Rattle.std.specs.Prelude.{◌≡◌, IsTrue, None, Some, if◌then◌else◌};
 ghost use Rattle.tn_base.specs.Message.{has_dest, has_packet};
 ghost use Rattle.tn_base.specs.declared.message.Dest.TheVariants as dest;
 ghost use Rattle.tn_base.specs.declared.port.Port.{Port};
+ghost use Rattle.tn_base.specs.declared.port.Port.TheVariants as port;
 ghost use Rattle.tn_keys.specs.Tables.{HasBoard};
 ghost use Rattle.tn_router.specs.Kept.{FitsWork};
 ghost use Rattle.tn_router.specs.Moves.{copy_by, key_move, move_of, sent_way};
@@ -22,6 +23,17 @@ use tn_keys::local::tile_address;
 use tn_keys::onward::neighbour;
 use tn_keys::record::RouteRec;
 
+/// The way down, if a destination is there.
+fn down_to(shape: &Shape, to: Dest) -> Option<Port>
+    ensures { result ≡ (if has_dest shape.now to then Some port.Down else None) }
+{
+    if shape.has_dest(&to) {
+        Some(Port::Down)
+    } else {
+        None
+    }
+}
+
 /// The way of the copy that a record makes of a packet, if it makes a copy.
 fn copy_way(shape: &Shape, board: Board, p: &Packet, route: RouteRec) -> Option<Port>
     requires board { HasBoard shape.now board }
@@ -29,25 +41,20 @@ fn copy_way(shape: &Shape, board: Board, p: &Packet, route: RouteRec) -> Option<
     ensures { result ≡ sent_way (copy_by shape.now board p.now route) }
 {
     let _numbers = shape.numbers();
-    let to = match route {
-        RouteRec::Urm1 { tile, thread, .. } | RouteRec::Urm2 { tile, thread, .. } => {
-            thread_at(board, tile, thread)
-        }
+    match route {
+        RouteRec::Urm1 { tile, thread, .. } => down_to(shape, thread_at(board, tile, thread)),
+        RouteRec::Urm2 { tile, thread, .. } => down_to(shape, thread_at(board, tile, thread)),
         RouteRec::Mrm { tile, mask, .. } => {
-            Dest::Mask(TileId(tile_address(board, tile)), Mask::of(mask))
+            let tile = TileId(tile_address(board, tile));
+            down_to(shape, Dest::Mask(tile, Mask::of(mask)))
         }
         RouteRec::Rr { dir, .. } => {
             if neighbour(shape, dir, board).is_none() {
                 return None;
             }
-            return Some(way_of(dir));
+            Some(way_of(dir))
         }
-        RouteRec::Ind { .. } => return None,
-    };
-    if shape.has_dest(&to) {
-        Some(Port::Down)
-    } else {
-        None
+        RouteRec::Ind { .. } => None,
     }
 }
 
