@@ -6,5 +6,6 @@ pub mod Shaped
 pub mod Searched
 pub mod Resting
 pub mod There
+pub mod Keyed
 pub mod Conserved
 pub mod Deeds

@@ -18,11 +18,13 @@ use Rattle.tn_keys.specs.Tables.{HasBoard, Table, is_bad_key}
 use Rattle.tn_router.specs.declared.moves.Move.{Move}
 use Rattle.tn_router.specs.declared.moves.Sent.{Sent}
 use Rattle.tn_router.specs.declared.work.Work.{Work}
-use Rattle.tn_router.specs.Kept.{FitsWay, FitsWork, MoveFits, WellShaped, is_keyed, is_placed, is_record_of, leads_on}
+use Rattle.tn_node.specs.PortRows.{at}
+use Rattle.tn_router.specs.declared.state.RouterState.{RouterState}
+use Rattle.tn_router.specs.Kept.{FitsSide, FitsWay, FitsWork, IsFit, MoveFits, is_keyed, is_placed, is_record_of, leads_on}
 use Rattle.tn_router.specs.Moves.{behind, copy_by, key_move, move_of, move_to, record_move, sent_if, way_of, whole_move}
-use Rattle.tn_router.specs.Places.{has_way, work_at}
+use Rattle.tn_router.specs.Places.{has_side, has_way}
 use Rattle.tn_router.specs.Rest.{at_beat, beats_from, entered, first_full, from_beat, next_record, next_work, or_zero, rest_by, rest_to, started, started_to}
-use Rattle.tn_router.specs.RouterView.{RouterView}
+use Rattle.tn_router.specs.RouterView.{RouterPlan}
 use Rattle.tn_router.proofs.Firsts.{placed_cases}
 use Rattle.tn_router.proofs.Placed.{entered_placed, next_placed}
 use Rattle.tn_router.proofs.Toward.{port_there, way_there}
@@ -33,6 +35,10 @@ SentFits n b o = MatchOption o (Unit {0}) (λ s. FitsWay n b s.way s.packet)
 
 abbrev pub WorkFits : ShapeNumbers → Table → Option Work → Type 0
 WorkFits n table o = MatchOption o (Unit {0}) (FitsWork n table)
+
+-- what is in process of a side fits there, at a side from which a link leads here
+abbrev pub SideFits : RouterPlan → Port → Option Work → Type 0
+SideFits plan side o = MatchOption o (Unit {0}) (FitsSide plan side)
 
 sent_fits : (n : ShapeNumbers) (b : Board) (way : Port) (p : Packet) → (not (is_keyed p.dest) || leads_on way) ≡ true → has_way n b way ≡ true → SentFits n b (sent_if n way p)
 sent_fits n b way p h there = cond_both (has_packet n p) (Some (record { way = way; packet = p })) None (SentFits n b) (λ e. (e, h, there)) (λ _. tt)
@@ -116,14 +122,35 @@ move_fits_to n b table side w (dest.Key key) board e f = key_fits n b table side
 pub move_fits : (n : ShapeNumbers) (b : Board) (table : Table) (side : Port) (w : Work) → HasBoard n b → FitsWork n table w → WorkFits n table (move_of n b table side w).work × SentFits n b (move_of n b table side w).sent
 move_fits n b table side w board f = move_fits_to n b table side w w.packet.dest board refl f
 
--- the packet of a place fits, as each does
-pub work_fits : (v : RouterView) (side : Port) (w : Work) → WellShaped v → work_at side v.process ≡ Some w → FitsWork v.shape v.beats w
-work_fits v side w s e = subst (WorkFits v.shape v.beats) e (s.works side)
+-- the packet in process of a side fits there, and a link leads here from that side
+pub work_fits : (plan : RouterPlan) (s : RouterState) (side : Port) (w : Work) → IsFit plan s → at side s.inputs ≡ Some w → FitsWork plan.shape plan.beats w
+work_fits plan s side w f e = (subst (SideFits plan side) e (f.works side)).0
 
-pub placed_fits : (v : RouterView) (side : Port) (w : Work) (m : Move) → WellShaped v → work_at side v.process ≡ Some w → m ≡ move_of v.shape v.board v.beats side w → MoveFits v m
-placed_fits v side w m s e is =
-    let f = move_fits v.shape v.board v.beats side w s.board (work_fits v side w s e) in
-    subst (MoveFits v) (sym is) (record { work = f.0; sent = f.1 })
+pub side_there : (plan : RouterPlan) (s : RouterState) (side : Port) (w : Work) → IsFit plan s → at side s.inputs ≡ Some w → has_side plan.shape plan.board side ≡ true
+side_there plan s side w f e = (subst (SideFits plan side) e (f.works side)).1
+
+pub move_side : (n : ShapeNumbers) (b : Board) (table : Table) (side : Port) (w : Work) → (move_of n b table side w).side ≡ side
+move_side n b table side w = side_to w.packet.dest where
+  side_by : (key : ℕ) (o : Option RouteRec) → (record_move n b table side key w o).side ≡ side
+  side_by key None = refl
+  side_by key (Some r) = refl
+
+  side_to : (d : Dest) → (move_to n b table side w d).side ≡ side
+  side_to (dest.Thread t) = refl
+  side_to dest.Host = refl
+  side_to (dest.Mask tile mask) = refl
+  side_to (dest.Key key) = cond_both (is_bad_key (length table) key) _ _ (λ (m : Move). m.side ≡ side) (λ _. refl) (λ _. side_by key (next_record table w))
+
+with_side : (plan : RouterPlan) (side : Port) (o : Option Work) → WorkFits plan.shape plan.beats o → has_side plan.shape plan.board side ≡ true → SideFits plan side o
+with_side plan side None f h = tt
+with_side plan side (Some w) f h = (f, h)
+
+pub placed_fits : (plan : RouterPlan) (s : RouterState) (side : Port) (w : Work) (m : Move) → HasBoard plan.shape plan.board → IsFit plan s → at side s.inputs ≡ Some w → m ≡ move_of plan.shape plan.board plan.beats side w → MoveFits plan m
+placed_fits plan s side w m board f e is =
+    let moved = move_fits plan.shape plan.board plan.beats side w board (work_fits plan s side w f e) in
+    let from = move_side plan.shape plan.board plan.beats side w in
+    let there = ap (has_side plan.shape plan.board) from ∙ side_there plan s side w f e in
+    subst (MoveFits plan) (sym is) (record { work = with_side plan (move_of plan.shape plan.board plan.beats side w).side _ moved.0 there; sent = moved.1 })
 
 -- a packet that comes into process is the one that came
 started_with : (n : ShapeNumbers) (p : Packet) (o : Option ℕ) → has_packet n p ≡ true → has_packet n (or_zero p (option_map (at_beat p) o)).packet ≡ true

@@ -1,5 +1,5 @@
 -- What holds of every router.
-use Rattle.std.specs.Prelude.{ℕ, ◌+◌, ◌==◌, ◌&&◌, ◌||◌, Bool, true, false, IsTrue, List, [], ◌∷◌, MatchOption, None, length, nat_le, nat_lt, not, pos, slice_index_or, ⊤}
+use Rattle.std.specs.Prelude.{ℕ, ◌+◌, ◌==◌, ◌&&◌, ◌||◌, Bool, true, false, IsTrue, List, [], ◌∷◌, MatchOption, None, length, nat_le, nat_lt, not, slice_index_or, ⊤}
 use Rattle.tn_base.specs.declared.ids.Board.{Board}
 use Rattle.tn_base.specs.declared.message.Dest.{Dest}
 use Rattle.tn_base.specs.declared.message.Dest.TheVariants as dest
@@ -68,9 +68,13 @@ leads_on port.Here = false
 abbrev pub FitsWay : ShapeNumbers → Board → Port → Packet → Type 0
 FitsWay n b way p = IsTrue (has_packet n p) × IsTrue (not (is_keyed p.dest) || leads_on way) × IsTrue (has_way n b way)
 
--- what came from each side fits there, from a side from which a link leads here; what waits for each way out fits the way
+-- a packet in process fits there, and it came from a side from which a link leads here
+abbrev pub FitsSide : RouterPlan → Port → Work → Type 0
+FitsSide plan side w = FitsWork plan.shape plan.beats w × IsTrue (has_side plan.shape plan.board side)
+
+-- each packet in process fits its side, and each packet that waits for a way out fits the way
 pub record IsFit (plan : RouterPlan) (s : RouterState) : Type 0 where
-  pub works : (side : Port) → MatchOption (at side s.inputs) ⊤ (λ w. FitsWork plan.shape plan.beats w × IsTrue (has_side plan.shape plan.board side))
+  pub works : (side : Port) → MatchOption (at side s.inputs) ⊤ (FitsSide plan side)
   pub waits : (way : Port) → MatchOption (at way s.node.out) ⊤ (FitsWay plan.shape plan.board way)
 
 pub record WellShaped (v : RouterView) : Type 0 where
@@ -79,7 +83,7 @@ pub record WellShaped (v : RouterView) : Type 0 where
 
 -- a move leaves in process what fits there, and sends on what fits its way
 pub record MoveFits (plan : RouterPlan) (m : Move) : Type 0 where
-  pub work : MatchOption m.work ⊤ (FitsWork plan.shape plan.beats)
+  pub work : MatchOption m.work ⊤ (FitsSide plan m.side)
   pub sent : MatchOption m.sent ⊤ (λ s. FitsWay plan.shape plan.board s.way s.packet)
 
 -- a router at its start

@@ -26,6 +26,11 @@ way_of dir = if dir == 0 then port.East else if dir == 1 then port.West else if 
 abbrev pub sent_if : ShapeNumbers → Port → Packet → Option Sent
 sent_if n way p = if has_packet n p then Some (record { way = way; packet = p }) else None
 
+-- the way out by which a packet is sent
+abbrev pub sent_way : Option Sent → Option Port
+sent_way None = None
+sent_way (Some s) = Some s.way
+
 -- the copy that a record makes of a packet. An IND makes none, and neither does a record whose destination is not there,
 -- which no accepted table has.
 abbrev pub copy_by : ShapeNumbers → Board → Packet → RouteRec → Option Sent

@@ -21,6 +21,11 @@ use Rattle.tn_router.specs.Places.{has_side}
 use Rattle.tn_router.specs.Rest.{started}
 use Rattle.tn_router.specs.RouterView.{RouterPlan}
 
+-- no packet waits for a way out, or there is no such way
+abbrev pub is_free : Option Port → Ports Packet → Bool
+is_free None out = true
+is_free (Some way) out = is_none (at way out)
+
 -- what is sent finds no packet that waits for its way out
 abbrev pub has_room : Option Sent → Ports Packet → Bool
 has_room None out = true

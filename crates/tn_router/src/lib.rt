@@ -1,18 +1,16 @@
 //! The router of a board: packets without a key on their way to other parts, and packets with a key, of which it makes
 //! copies by the records of its table, one record at a time.
 //!
-//! What one Route makes of a packet stands in `specs/Moves.antt`, the records still to come in `specs/Rest.antt`, and what
-//! each event makes of a router in `specs/Rows.antt`. Read `Router` and `Router::route` first.
+//! A router is a plan, which no event changes, and a state. `specs/Moves.antt` says what one Route makes of a packet,
+//! `specs/Rest.antt` which records are still to come, and `specs/Rows.antt` what each event makes of a state. Read `Router`
+//! first, then `RouterState`.
 #![tactic(auto)]
 
-pub mod buffers;
-mod copy;
 pub mod laws;
-mod links;
 pub mod moves;
 mod places;
-mod rest;
-pub mod route;
+pub mod plan;
 pub mod router;
-mod same;
+pub mod state;
+mod ways;
 pub mod work;

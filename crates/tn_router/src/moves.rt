@@ -45,7 +45,7 @@ pub struct Sent {
 #[derive(Drop)]
 pub struct Move {
     pub side: Port,
-    /// What is sent on, where that buffer is empty.
+    /// The packet that is sent on, if no packet waits for that way out yet.
     pub sent: Option<Sent>,
     /// What stays in process.
     pub work: Option<Work>,
@@ -83,7 +83,7 @@ pub(crate) fn has_side(shape: &Shape, board: Board, side: Port) -> bool
 }
 
 /// The way of an RR's direction.
-fn way_of(dir: u8) -> Port
+pub(crate) fn way_of(dir: u8) -> Port
     ensures { result ≡ way_of dir }
 {
     match dir {
@@ -95,7 +95,7 @@ fn way_of(dir: u8) -> Port
 }
 
 /// A thread of a tile of a board.
-fn thread_at(board: Board, tile: u8, thread: u8) -> Dest
+pub(crate) fn thread_at(board: Board, tile: u8, thread: u8) -> Dest
     requires x { board.x < 4 }
     requires y { board.y < 4 }
     ensures { result ≡ dest.Thread (record { 0 = tile_address board tile + thread }) }
@@ -150,19 +150,19 @@ fn copy_by(shape: &Shape, board: Board, p: &Packet, route: RouteRec) -> Option<S
             if neighbour(shape, dir, board).is_none() {
                 return None;
             }
-            sent_if(shape, way_of(dir), with_key(p, Key(key)))
+            sent_if(shape, way_of(dir), with_key(p.copy(), Key(key)))
         }
         RouteRec::Ind { .. } => None,
     }
 }
 
 /// The packet behind a record, if another one comes.
-fn behind(beats: &[Beat], key: Key, work: &Work, route: RouteRec) -> Option<Work>
-    requires { IsTrue (is_record_of beats.now key.0 work.now.beat work.now.at) }
-    ensures { result ≡ behind beats.now key.0 work.now route }
+fn behind(beats: &[Beat], key: Key, work: Work, route: RouteRec) -> Option<Work>
+    requires { IsTrue (is_record_of beats.now key.0 work.beat work.at) }
+    ensures { result ≡ behind beats.now key.0 work route }
 {
     match route {
-        RouteRec::Ind { key: onward } => entered(beats, &work.packet, Key(onward)),
+        RouteRec::Ind { key: onward } => entered(beats, work.packet, Key(onward)),
         RouteRec::Urm1 { .. }
         | RouteRec::Urm2 { .. }
         | RouteRec::Rr { .. }
@@ -171,12 +171,12 @@ fn behind(beats: &[Beat], key: Key, work: &Work, route: RouteRec) -> Option<Work
 }
 
 /// A packet without a key goes whole.
-fn whole_move(board: Board, side: Port, p: &Packet) -> Move
-    ensures { result ≡ whole_move board side p.now }
+fn whole_move(board: Board, side: Port, packet: Packet) -> Move
+    ensures { result ≡ whole_move board side packet }
 {
     let sent = Sent {
-        way: board.port(&p.dest),
-        packet: p.copy(),
+        way: board.port(&packet.dest),
+        packet,
     };
     Move {
         side,
@@ -186,45 +186,46 @@ fn whole_move(board: Board, side: Port, p: &Packet) -> Move
     }
 }
 
-/// One record is done. Where none comes, the packet is taken away; where the key is bad, nothing moves.
-fn key_move(shape: &Shape, board: Board, beats: &[Beat], side: Port, key: Key, work: &Work) -> Move
+/// One record is done. If no record comes, the packet is taken away. If the key is bad, nothing moves.
+fn key_move(shape: &Shape, board: Board, beats: &[Beat], side: Port, key: Key, work: Work) -> Move
     requires board { HasBoard shape.now board }
-    requires key { work.now.packet.dest ≡ dest.Key key.0 }
-    requires placed { IsTrue (is_placed beats.now work.now) }
-    ensures { result ≡ key_move shape.now board beats.now side key.0 work.now }
+    requires key { work.packet.dest ≡ dest.Key key.0 }
+    requires placed { IsTrue (is_placed beats.now work) }
+    ensures { result ≡ key_move shape.now board beats.now side key.0 work }
 {
     if is_bad(beats, key) {
         return Move {
             side,
             sent: None,
-            work: Some(work.copy()),
+            work: Some(work),
             bad: Some(key.0),
         };
     }
-    match next_record(beats, key, work) {
-        None => Move {
+    let Some(route) = next_record(beats, key, &work) else {
+        return Move {
             side,
             sent: None,
             work: None,
             bad: None,
-        },
-        Some(route) => Move {
-            side,
-            sent: copy_by(shape, board, &work.packet, route),
-            work: behind(beats, key, work, route),
-            bad: None,
-        },
+        };
+    };
+    let sent = copy_by(shape, board, &work.packet, route);
+    Move {
+        side,
+        sent,
+        work: behind(beats, key, work, route),
+        bad: None,
     }
 }
 
-/// What one Route makes of a packet in process at a side, if what it sends finds its buffer empty.
-pub(crate) fn move_of(shape: &Shape, board: Board, beats: &[Beat], side: Port, work: &Work) -> Move
+/// What one Route makes of a packet in process at a side, if no packet waits where it sends.
+pub(crate) fn move_of(shape: &Shape, board: Board, beats: &[Beat], side: Port, work: Work) -> Move
     requires board { HasBoard shape.now board }
-    requires placed { IsTrue (is_placed beats.now work.now) }
-    ensures { result ≡ move_of shape.now board beats.now side work.now }
+    requires placed { IsTrue (is_placed beats.now work) }
+    ensures { result ≡ move_of shape.now board beats.now side work }
 {
     match work.packet.dest {
         Dest::Key(key) => key_move(shape, board, beats, side, Key(key), work),
-        Dest::Thread(_) | Dest::Host | Dest::Mask(_, _) => whole_move(board, side, &work.packet),
+        Dest::Thread(_) | Dest::Host | Dest::Mask(_, _) => whole_move(board, side, work.packet),
     }
 }

@@ -4,7 +4,7 @@ ghost use Rattle.std.specs.Prelude.{◌≡◌, ◌≤◌, ◌+◌, false, IsSome
 ghost use Rattle.tn_base.specs.declared.message.Dest.TheVariants as dest;
 ghost use Rattle.tn_keys.specs.Tables.{is_bad_key};
 ghost use Rattle.tn_router.specs.Kept.{is_placed, is_record_of};
-ghost use Rattle.tn_router.specs.Rest.{at_beat, entered, first_full, from_beat, next_record, next_work, or_zero, rest_by, started, started_by};
+ghost use Rattle.tn_router.specs.Rest.{at_beat, entered, first_full, from_beat, next_work, rest_by, started, started_by};
 
 use crate::work::Work;
 use tn_base::message::{Dest, Packet};
@@ -44,36 +44,36 @@ fn at_beat(packet: Packet, beat: u32) -> Work
 }
 
 /// A packet at the first record of a key's beats from a number on, if there is one.
-fn from_beat(beats: &[Beat], key: Key, from: u32, p: &Packet) -> Option<Work>
+fn from_beat(beats: &[Beat], key: Key, from: u32, packet: Packet) -> Option<Work>
     requires { is_bad_key (length beats.now) key.0 ≡ false }
-    ensures { result ≡ from_beat beats.now key.0 from p.now }
+    ensures { result ≡ from_beat beats.now key.0 from packet }
 {
     match first_full(beats, from, key.first() + key.count()) {
-        Some(beat) => Some(at_beat(p.copy(), beat)),
+        Some(beat) => Some(at_beat(packet, beat)),
         None => None,
     }
 }
 
 /// A packet with a key that comes into process.
-fn started_by(beats: &[Beat], key: Key, p: &Packet) -> Work
-    ensures { result ≡ started_by beats.now p.now key.0 }
+fn started_by(beats: &[Beat], key: Key, packet: Packet) -> Work
+    ensures { result ≡ started_by beats.now packet key.0 }
 {
     if is_bad(beats, key) {
-        return at_beat(p.copy(), 0);
+        return at_beat(packet, 0);
     }
-    match from_beat(beats, key, key.first(), p) {
-        Some(work) => work,
-        None => at_beat(p.copy(), 0),
+    match first_full(beats, key.first(), key.first() + key.count()) {
+        Some(beat) => at_beat(packet, beat),
+        None => at_beat(packet, 0),
     }
 }
 
-/// A packet that comes into process, at the first record of its key; both numbers are 0 where no record comes.
-pub(crate) fn started(beats: &[Beat], p: &Packet) -> Work
-    ensures { result ≡ started beats.now p.now }
+/// A packet that comes into process, at the first record of its key. Both numbers are 0 if no record comes.
+pub(crate) fn started(beats: &[Beat], packet: Packet) -> Work
+    ensures { result ≡ started beats.now packet }
 {
-    match p.dest {
-        Dest::Key(key) => started_by(beats, Key(key), p),
-        Dest::Thread(_) | Dest::Host | Dest::Mask(_, _) => at_beat(p.copy(), 0),
+    match packet.dest {
+        Dest::Key(key) => started_by(beats, Key(key), packet),
+        Dest::Thread(_) | Dest::Host | Dest::Mask(_, _) => at_beat(packet, 0),
     }
 }
 
@@ -92,40 +92,38 @@ pub(crate) fn next_record(beats: &[Beat], key: Key, work: &Work) -> Option<Route
 }
 
 /// A packet behind its next record, if another one comes.
-pub(crate) fn next_work(beats: &[Beat], key: Key, work: &Work) -> Option<Work>
-    requires { IsTrue (is_record_of beats.now key.0 work.now.beat work.now.at) }
-    ensures { result ≡ next_work beats.now key.0 work.now }
+pub(crate) fn next_work(beats: &[Beat], key: Key, work: Work) -> Option<Work>
+    requires { IsTrue (is_record_of beats.now key.0 work.beat work.at) }
+    ensures { result ≡ next_work beats.now key.0 work }
 {
     let count = beats[work.beat as usize].len();
     if work.at + 1 < count {
         return Some(Work {
-            packet: work.packet.copy(),
+            packet: work.packet,
             beat: work.beat,
             at: work.at + 1,
         });
     }
-    from_beat(beats, key, work.beat + 1, &work.packet)
+    from_beat(beats, key, work.beat + 1, work.packet)
 }
 
 /// A packet that goes on with another key, if a record of it comes or the key is bad.
-pub(crate) fn entered(beats: &[Beat], p: &Packet, key: Key) -> Option<Work>
-    ensures { result ≡ entered beats.now p.now key.0 }
+pub(crate) fn entered(beats: &[Beat], packet: Packet, key: Key) -> Option<Work>
+    ensures { result ≡ entered beats.now packet key.0 }
 {
-    let packet = with_key(p, key);
+    let packet = with_key(packet, key);
     if is_bad(beats, key) {
         return Some(at_beat(packet, 0));
     }
-    from_beat(beats, key, key.first(), &packet)
+    from_beat(beats, key, key.first(), packet)
 }
 
 /// The packet with another key.
-pub(crate) fn with_key(p: &Packet, key: Key) -> Packet
-    ensures { result ≡ record p.now { dest = dest.Key key.0 } }
+pub(crate) fn with_key(packet: Packet, key: Key) -> Packet
+    ensures { result ≡ record packet { dest = dest.Key key.0 } }
 {
     Packet {
-        origin: p.origin,
-        number: p.number,
         dest: Dest::Key(key.0),
-        bytes: p.bytes.copy(),
+        ..packet
     }
 }
