@@ -10,7 +10,8 @@ use Rattle.tn_link.specs.LinkView.{LinkView}
 use Rattle.tn_slots.specs.WellKept.{WellKept}
 use Rattle.tn_tile.specs.Kept.{IsFit}
 use Rattle.tn_tile.specs.Step.{no_thread}
-use Rattle.tn_tile.specs.TileView.{TileState, TileView, with_now}
+use Rattle.tn_tile.specs.declared.state.TileState.{TileState}
+use Rattle.tn_tile.specs.TileView.{TileView, with_now}
 use Rattle.tn_rows.specs.Events.{with_part}
 use Rattle.tn_rows.specs.PartView.{TileV, LinkV}
 use Rattle.tn_rows.specs.WorldView.{WorldView}

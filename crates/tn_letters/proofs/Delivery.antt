@@ -18,7 +18,8 @@ use Rattle.std.specs.Prelude.{MatchOption}
 use Rattle.tn_tile.specs.Kept.{IsFit, IsPacket, WellShaped, has_way}
 use Rattle.tn_tile.specs.Receivers.{is_dead}
 use Rattle.tn_tile.specs.Step.{no_thread, pending_at, thread_at}
-use Rattle.tn_tile.specs.TileView.{TileState, TileView, with_now}
+use Rattle.tn_tile.specs.declared.state.TileState.{TileState}
+use Rattle.tn_tile.specs.TileView.{TileView, with_now}
 use Rattle.tn_rows.specs.WorldView.{WorldView}
 use Rattle.tn_letters.specs.declared.steps.BagStep.{BagStep}
 use Rattle.tn_letters.specs.declared.steps.BagStep.TheVariants as bag

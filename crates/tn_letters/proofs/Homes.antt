@@ -11,7 +11,8 @@ use Rattle.tn_node.specs.declared.node.Node.{Node}
 use Rattle.tn_node.specs.declared.ports.Ports.{Ports}
 use Rattle.tn_node.specs.PortRows.{with_at}
 use Rattle.tn_node.proofs.PortLaws.{each_set}
-use Rattle.tn_tile.specs.TileView.{TileState, TileView}
+use Rattle.tn_tile.specs.declared.state.TileState.{TileState}
+use Rattle.tn_tile.specs.TileView.{TileView}
 use Rattle.tn_letters.specs.Letters.{board_of}
 use Rattle.tn_letters.proofs.Lift.{HomeTile, Homed}
 

@@ -22,7 +22,8 @@ use Rattle.tn_base.specs.Shape.{WithinLimits}
 use Rattle.tn_base.proofs.TilePlaces.{fields, place_below, place_named, tile_found}
 use Rattle.tn_slots.specs.WellKept.{WellKept}
 use Rattle.tn_tile.specs.Kept.{IsFit, WellShaped}
-use Rattle.tn_tile.specs.TileView.{TileState, TileView, with_now}
+use Rattle.tn_tile.specs.declared.state.TileState.{TileState}
+use Rattle.tn_tile.specs.TileView.{TileView, with_now}
 use Rattle.tn_base.specs.declared.ids.PartId.{PartId}
 use Rattle.tn_base.specs.declared.part.Kind.{Kind}
 use Rattle.tn_base.specs.declared.part.Kind.TheVariants as kind

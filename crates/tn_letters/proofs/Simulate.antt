@@ -17,7 +17,8 @@ use Rattle.tn_thread.specs.Fits.{OpFits, StepFits}
 use Rattle.tn_thread.specs.Step.{Stepped, runnable}
 use Rattle.tn_tile.specs.Kept.{IsFit}
 use Rattle.tn_tile.specs.Step.{acted, can_step, next_step, no_thread, pending_at, sight_at, step_at_place, thread_at, with_thread}
-use Rattle.tn_tile.specs.TileView.{TileState, TileView, with_now}
+use Rattle.tn_tile.specs.declared.state.TileState.{TileState}
+use Rattle.tn_tile.specs.TileView.{TileView, with_now}
 use Rattle.tn_tile.proofs.Packed.{few_places}
 use Rattle.tn_tile.proofs.Shaped.{step_fit}
 use Rattle.tn_rows.specs.PartView.{TileV, AbsentV}

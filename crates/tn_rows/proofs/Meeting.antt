@@ -11,7 +11,8 @@ use Rattle.tn_stamp.specs.declared.entry.Crossing.TheVariants as crossing
 use Rattle.tn_node.specs.NodeRows.{departed_with, offered}
 use Rattle.tn_node.proofs.Given.{given, gives}
 use Rattle.tn_tile.specs.Rows.{accept_row, depart_row, with_node}
-use Rattle.tn_tile.specs.TileView.{TileState, TileView, now_by}
+use Rattle.tn_tile.specs.declared.state.TileState.{TileState}
+use Rattle.tn_tile.specs.TileView.{TileView, now_by}
 use Rattle.tn_router.specs.declared.state.RouterState.{RouterState}
 use Rattle.tn_router.specs.RouterView.{RouterView, now_by as router_now_by}
 use Rattle.tn_router.specs.Rows.{accept_row as router_accepts, depart_row as router_departs, with_node as router_with_node}

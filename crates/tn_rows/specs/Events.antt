@@ -24,7 +24,8 @@ use Rattle.tn_stamp.specs.declared.entry.Crossing.{Crossing}
 use Rattle.tn_stamp.specs.declared.entry.Crossing.TheVariants as crossing
 use Rattle.tn_stamp.specs.declared.entry.Entry.{Entry}
 use Rattle.tn_tile.specs.Rows.{tile_deed}
-use Rattle.tn_tile.specs.TileView.{TilePlan, TileState, TileView, now_by}
+use Rattle.tn_tile.specs.declared.state.TileState.{TileState}
+use Rattle.tn_tile.specs.TileView.{TilePlan, TileView, now_by}
 
 -- the deed of a tile or router in an event with this crossing: here alone a part's ports are found from the number of a link
 abbrev pub deed_of : ShapeNumbers → Event → Crossing → Option Deed

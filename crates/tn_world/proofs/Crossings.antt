@@ -21,7 +21,8 @@ use Rattle.tn_router.specs.RouterView.{RouterPlan, RouterView, now_by as router_
 use Rattle.tn_router.specs.Rows.{accept_row as router_accepts, can_accept, depart_row as router_departs, received as router_received}
 use Rattle.tn_rows.proofs.Meeting.{and_true, arrives, can_depart, departed, if_some, router_can_arrive, router_can_depart, router_cannot_arrive, router_departed, some_mapped}
 use Rattle.tn_tile.specs.Rows.{accept_row, accepted, came, can_count, depart_row}
-use Rattle.tn_tile.specs.TileView.{TilePlan, TileState, TileView, now_by}
+use Rattle.tn_tile.specs.declared.state.TileState.{TileState}
+use Rattle.tn_tile.specs.TileView.{TilePlan, TileView, now_by}
 use Rattle.tn_stamp.specs.declared.entry.Crossing.TheVariants as crossing
 use Rattle.tn_rows.specs.Events.{Met, after, meets}
 use Rattle.tn_rows.specs.PartView.{PartView, TileV, RouterV, LinkV}

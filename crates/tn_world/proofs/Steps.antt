@@ -6,7 +6,8 @@ use Rattle.tn_base.specs.Address.{place_in_tile}
 use Rattle.tn_tile.proofs.Steps.{steps_stop}
 use Rattle.tn_tile.specs.Rows.{can_count, is_here, turn_row}
 use Rattle.tn_tile.specs.Step.{can_step, stepped, steps_of}
-use Rattle.tn_tile.specs.TileView.{TilePlan, TileState}
+use Rattle.tn_tile.specs.declared.state.TileState.{TileState}
+use Rattle.tn_tile.specs.TileView.{TilePlan}
 
 at_least : (n m : ℕ) → n ≤ m → leb n m ≡ true
 at_least n m h = grind (arith, nat_tests)
