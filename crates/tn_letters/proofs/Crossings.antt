@@ -29,7 +29,7 @@ use Rattle.tn_tile.specs.Kept.{IsPacket, has_way}
 use Rattle.tn_tile.specs.Rows.{accept_row, accepted, came, depart_row, passed, with_node}
 use Rattle.tn_tile.specs.declared.state.TileState.{TileState}
 use Rattle.tn_tile.specs.TileView.{TileView, now_by, with_now}
-use Rattle.tn_tile.proofs.Shaped.{out_fit}
+use Rattle.tn_letters.proofs.Fitting.{out_fit}
 use Rattle.tn_tile.proofs.Steps.{taken}
 use Rattle.tn_rows.proofs.Meeting.{mapped, met_rows}
 use Rattle.tn_rows.specs.Events.{Met, met_by, met_with, with_both, with_part}

@@ -61,7 +61,7 @@ use Rattle.tn_rows.proofs.Meeting.{mapped}
 use Rattle.tn_tile.specs.Rows.{counted, delivered_from, passed, passed_by, received, sent_on, stored, stored_at, with_node}
 use Rattle.tn_tile.proofs.Dead.{dead_at, dead_below, dead_bit}
 use Rattle.tn_tile.proofs.Packed.{few_places, one_place, packed_below}
-use Rattle.tn_tile.proofs.Shaped.{out_fit, pending_fit, put_fit}
+use Rattle.tn_letters.proofs.Fitting.{out_fit, pending_fit, put_fit}
 use Rattle.tn_keys.specs.Copies.{only_if}
 use Rattle.tn_keys.specs.Reach.{Reach}
 use Rattle.tn_letters.specs.Letters.{letter}
@@ -124,7 +124,7 @@ put_stored w mask p v s fit kept low short e =
     let from : Sender = record { origin = p.origin; number = p.number } in
     let x : Slot = record { bytes = p.bytes; owed = mask; holders = 0 } in
     let queues : List (List ℕ) = appended mask s v.now.pool.queues in
-    let there : s < length v.now.senders = let a = free.0 in let b = fit.pool.slots in let d = fit.pool.sender_count in omega arith in
+    let there : s < length v.now.senders = let a = free.0 in let b = fit.pool.slots in let d = fit.pool.senders in omega arith in
     record {
       weighs = λ f.
           let a = slot_replaced f v s x queues (set v.now.senders s from) free.0 (λ j ne. get_or-set_other v.now.senders s j from no_sender ne) in

@@ -3,7 +3,7 @@ pub mod Conserved
 pub mod Copies
 pub mod Crossings
 pub mod Delivery
-pub mod Fits
+pub mod Fitting
 pub mod Holding
 pub mod Homes
 pub mod Lift

@@ -17,8 +17,7 @@ use Rattle.tn_rows.specs.WorldView.{WorldView}
 use Rattle.tn_letters.specs.Law.{dropped_in, dropped_on}
 use Rattle.tn_letters.specs.Standing.{standing_letters}
 use Rattle.tn_letters.specs.State.{Agree}
-use Rattle.tn_letters.specs.Tiles.{beats_on, held_in, held_of, no_tile, part_for, program_of, reach_of, tables_of, thread_of, tile_for, tile_in}
-use Rattle.tn_tile.specs.Step.{thread_at}
+use Rattle.tn_letters.specs.Tiles.{beats_on, held_in, held_of, no_tile, part_for, program_of, reach_of, tables_of, thread_in, thread_of, tile_for, tile_in}
 use Rattle.tn_letters.proofs.Lift.{Good, GoodPart, HomeLink, OnLink, OnPart, StandsAt, good_with, part_changes, reach_stays, stands_on, tables_stay}
 use Rattle.tn_letters.proofs.Weights.{link_w, part_w}
 
@@ -60,14 +59,14 @@ same_beats : (w : WorldView) (q : ℕ) (old new : PartView) → OnPart w q old �
 same_beats w q old new on e = e ∙ sym (ap beats_on on.is)
 
 pub program_past : (w : WorldView) (q : ℕ) (old new : PartView) → OnPart w q old → NoTilePart old → NoTilePart new → beats_on new ≡ beats_on old → program_of (with_part w q new) ≡ program_of w
-program_past w q old new on was is e = λ i. record { shape = w.shape; code = λ b. (tile_past w q old new b on was is i).code; reach = reach_stays w q new on.within (same_beats w q old new on e) i }
+program_past w q old new on was is e = λ i. record { shape = w.shape; code = λ b. (tile_past w q old new b on was is i).plan.code; reach = reach_stays w q new on.within (same_beats w q old new on e) i }
 
 pub shifted : (w : WorldView) (p : ℕ) (old new : PartView) (came gone : (Letter → ℕ) → ℕ) → Good w → Shifts w p old new came gone → Shifted w (with_part w p new) came gone
 shifted w p old new came gone good s =
     let on = s.on in
     let beats = same_beats w p old new on s.beats in
     record {
-      threads = λ b h. sym (ap (λ t. thread_at t (place_in_tile w.shape b)) (tile_past w p old new b on s.was s.is));
+      threads = λ b h. sym (ap (λ t. thread_in t (place_in_tile w.shape b)) (tile_past w p old new b on s.was s.is));
       held = λ b slot. sym (ap (λ t. held_in t (place_in_tile w.shape b) slot) (tile_past w p old new b on s.was s.is));
       letters = λ f.
           let c = part_changes f w p new (reach_of w) on.within on.below beats refl in

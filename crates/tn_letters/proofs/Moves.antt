@@ -20,22 +20,22 @@ use Rattle.tn_keys.specs.Copies.{Copy, keyed, neighbour, tile_address}
 use Rattle.tn_keys.specs.Key.{key_first}
 use Rattle.tn_keys.specs.Reach.{Reach, reach}
 use Rattle.tn_keys.specs.Tables.{HasBoard, Table, is_bad_key, table_of}
-use Rattle.tn_router.specs.declared.buffers.Buffers.{Buffers}
 use Rattle.tn_router.specs.declared.moves.Move.{Move}
 use Rattle.tn_router.specs.declared.moves.Sent.{Sent}
-use Rattle.tn_router.specs.declared.work.Process.{Process}
 use Rattle.tn_router.specs.declared.work.Work.{Work}
 use Rattle.tn_router.specs.Kept.{FitsWork, WellShaped}
 use Rattle.tn_router.specs.Left.{all_left, all_sent, copies_left, copies_out}
 use Rattle.tn_router.specs.Moves.{behind, copy_by, move_of, move_to, record_move, sent_if, way_of, whole_move}
-use Rattle.tn_router.specs.Places.{buffer_at, with_buffer, with_work, work_at}
+use Rattle.tn_node.specs.declared.ports.Ports.{Ports}
+use Rattle.tn_node.specs.PortRows.{at, with_at}
+use Rattle.tn_router.specs.declared.state.RouterState.{RouterState}
 use Rattle.tn_router.specs.Rest.{at_beat, beats_from, entered, first_full, from_beat, next_record, next_work}
 use Rattle.tn_router.specs.Rows.{carried, first_move, first_of, has_room, move_at, move_with, or_else, sides, with_sent}
-use Rattle.tn_router.specs.RouterView.{RouterView}
+use Rattle.tn_router.specs.RouterView.{RouterPlan, RouterView, with_now}
 use Rattle.tn_router.proofs.Conserved.{route_conserves}
 use Rattle.tn_router.proofs.Moved.{work_fits}
 use Rattle.tn_letters.specs.Letters.{letter_for}
-use Rattle.tn_letters.proofs.Weights.{copies_w, out_w, outs_w, router_w, work_w, works_w}
+use Rattle.tn_letters.proofs.Weights.{copies_w, out_w, outs_w, ports_set, router_w, work_w, works_w}
 
 -- ---- what a move sends and leaves is of the same packet
 
@@ -167,57 +167,20 @@ move_weighs f n tables b side w limits accepted board fits =
 
 -- ---- a packet more or less in a router
 
-abbrev pub IsSide : Port → Type 0
-IsSide port.East = Unit {0}
-IsSide port.West = Unit {0}
-IsSide port.South = Unit {0}
-IsSide port.North = Unit {0}
-IsSide port.Up = Unit {0}
-IsSide port.HostPort = Unit {0}
-IsSide port.Down = ⊥
-IsSide port.Here = ⊥
+pub works_set : (f : Letter → ℕ) (on : Reach) (n : ShapeNumbers) (b : Board) (table : Table) (side : Port) (o : Option Work) (p : Ports Work) → (side ≡ port.Here → ⊥) →
+    works_w f on n b table (with_at side o p) + work_w f on n b table (at side p) ≡ works_w f on n b table p + work_w f on n b table o
+works_set f on n b table side o p ne = ports_set (λ side. work_w f on n b table) side o p ne
 
-pub works_set : (f : Letter → ℕ) (on : Reach) (n : ShapeNumbers) (b : Board) (table : Table) (side : Port) (o : Option Work) (p : Process) → IsSide side →
-    works_w f on n b table (with_work side o p) + work_w f on n b table (work_at side p) ≡ works_w f on n b table p + work_w f on n b table o
-works_set f on n b table port.East o p is = omega arith
-works_set f on n b table port.West o p is = omega arith
-works_set f on n b table port.South o p is = omega arith
-works_set f on n b table port.North o p is = omega arith
-works_set f on n b table port.Up o p is = omega arith
-works_set f on n b table port.HostPort o p is = omega arith
-works_set f on n b table port.Down o p is = absurd is
-works_set f on n b table port.Here o p is = absurd is
+pub outs_set : (f : Letter → ℕ) (on : Reach) (n : ShapeNumbers) (b : Board) (way : Port) (o : Option Packet) (out : Ports Packet) → (way ≡ port.Here → ⊥) →
+    outs_w f on n b (with_at way o out) + out_w f on n b way (at way out) ≡ outs_w f on n b out + out_w f on n b way o
+outs_set f on n b way o out ne = ports_set (out_w f on n b) way o out ne
 
-pub outs_set : (f : Letter → ℕ) (on : Reach) (n : ShapeNumbers) (b : Board) (way : Port) (o : Option Packet) (out : Ports Packet) → IsOut way →
-    outs_w f on n b (with_buffer way o out) + out_w f on n b way (buffer_at way out) ≡ outs_w f on n b out + out_w f on n b way o
-outs_set f on n b port.East o out is = omega arith
-outs_set f on n b port.West o out is = omega arith
-outs_set f on n b port.South o out is = omega arith
-outs_set f on n b port.North o out is = omega arith
-outs_set f on n b port.Down o out is = omega arith
-outs_set f on n b port.HostPort o out is = omega arith
-outs_set f on n b port.Up o out is = absurd is
-outs_set f on n b port.Here o out is = absurd is
+-- a port that has a value is not `Here`
+pub port_there : {X : Type 0} (p : Port) (s : Ports X) (x : X) → at p s ≡ Some x → p ≡ port.Here → ⊥
+port_there p s x e here = let no : None ≡ Some x = sym (ap (λ q. at q s) here) ∙ e in cc no
 
-pub side_there : (side : Port) (p : Process) (w : Work) → work_at side p ≡ Some w → IsSide side
-side_there port.East p w e = tt
-side_there port.West p w e = tt
-side_there port.South p w e = tt
-side_there port.North p w e = tt
-side_there port.Up p w e = tt
-side_there port.HostPort p w e = tt
-side_there port.Down p w e = cc e
-side_there port.Here p w e = cc e
-
-pub way_there : (way : Port) (b : Ports Packet) (k : Packet) → buffer_at way b ≡ Some k → IsOut way
-way_there port.East b k e = tt
-way_there port.West b k e = tt
-way_there port.South b k e = tt
-way_there port.North b k e = tt
-way_there port.Down b k e = tt
-way_there port.HostPort b k e = tt
-way_there port.Up b k e = cc e
-way_there port.Here b k e = cc e
+out_there : (way : Port) → IsOut way → way ≡ port.Here → ⊥
+out_there way out here = subst IsOut here out
 
 none_from : (o : Option Packet) → is_none o ≡ true → o ≡ None
 none_from None e = refl
@@ -226,60 +189,60 @@ none_from (Some x) e = cc e
 sent_more : (f : Letter → ℕ) (on : Reach) (n : ShapeNumbers) (b : Board) (p : Packet) (o : Option Sent) (out : Ports Packet) → SentFrom p o → has_room o out ≡ true → outs_w f on n b (with_sent o out) ≡ outs_w f on n b out + sent_w f on n b o
 sent_more f on n b p None out from room = omega arith
 sent_more f on n b p (Some s) out from room =
-    let a = outs_set f on n b s.way (Some s.packet) out from.1 in
-    let z : out_w f on n b s.way (buffer_at s.way out) ≡ 0 = ap (out_w f on n b s.way) (none_from (buffer_at s.way out) room) in
+    let a = outs_set f on n b s.way (Some s.packet) out (out_there s.way from.1) in
+    let z : out_w f on n b s.way (at s.way out) ≡ 0 = ap (out_w f on n b s.way) (none_from (at s.way out) room) in
     omega arith
 
 -- ---- a Route
 
-pub record MovesSo (v : RouterView) (m : Move) : Type 0 where
+pub record MovesSo (plan : RouterPlan) (s : RouterState) (m : Move) : Type 0 where
   pub side : Port
   pub work : Work
-  pub there : work_at side v.now.inputs ≡ Some work
-  pub is : m ≡ move_of v.plan.shape v.plan.board v.plan.beats side work
-  pub room : has_room m.sent v.now.node.out ≡ true
+  pub there : at side s.inputs ≡ Some work
+  pub is : m ≡ move_of plan.shape plan.board plan.beats side work
+  pub room : has_room m.sent s.node.out ≡ true
 
 move_so : (b : Bool) (x m : Move) → cond b (Some x) None ≡ Some m → (b ≡ true) × (x ≡ m)
 move_so true x m e = (refl, ap (λ (o : Option Move). unwrap_or o m) e)
 move_so false x m e = cc e
 
-moved_with : (side : Port) (o : Option Work) (v : RouterView) (m : Move) → work_at side v.now.inputs ≡ o → move_with side o v ≡ Some m → MovesSo v m
-moved_with side None v m e is = cc is
-moved_with side (Some w) v m e is =
-    let x : Move = move_of v.plan.shape v.plan.board v.plan.beats side w in
-    let so = move_so (has_room x.sent v.now.node.out) x m is in
-    record { side = side; work = w; there = e; is = sym so.1; room = ap (λ (y : Move). has_room y.sent v.now.node.out) (sym so.1) ∙ so.0 }
+moved_with : (plan : RouterPlan) (side : Port) (o : Option Work) (s : RouterState) (m : Move) → at side s.inputs ≡ o → move_with plan side o s ≡ Some m → MovesSo plan s m
+moved_with plan side None s m e is = cc is
+moved_with plan side (Some w) s m e is =
+    let x : Move = move_of plan.shape plan.board plan.beats side w in
+    let so = move_so (has_room x.sent s.node.out) x m is in
+    record { side = side; work = w; there = e; is = sym so.1; room = ap (λ (y : Move). has_room y.sent s.node.out) (sym so.1) ∙ so.0 }
 
-moved_or : (a others : Option Move) (v : RouterView) (m : Move) → (a ≡ Some m → MovesSo v m) → (others ≡ Some m → MovesSo v m) → or_else a others ≡ Some m → MovesSo v m
-moved_or None others v m first rest e = rest e
-moved_or (Some x) others v m first rest e = first e
+moved_or : (plan : RouterPlan) (a others : Option Move) (s : RouterState) (m : Move) → (a ≡ Some m → MovesSo plan s m) → (others ≡ Some m → MovesSo plan s m) → or_else a others ≡ Some m → MovesSo plan s m
+moved_or plan None others s m first rest e = rest e
+moved_or plan (Some x) others s m first rest e = first e
 
-first_moves : (order : List Port) (v : RouterView) (m : Move) → first_of order v ≡ Some m → MovesSo v m
-first_moves [] v m e = cc e
-first_moves (side ∷ others) v m e = moved_or (move_at side v) (first_of others v) v m (λ here. moved_with side (work_at side v.now.inputs) v m refl here) (λ rest. first_moves others v m rest) e
+first_moves : (plan : RouterPlan) (order : List Port) (s : RouterState) (m : Move) → first_of plan order s ≡ Some m → MovesSo plan s m
+first_moves plan [] s m e = cc e
+first_moves plan (side ∷ others) s m e = moved_or plan (move_at plan side s) (first_of plan others s) s m (λ here. moved_with plan side (at side s.inputs) s m refl here) (λ rest. first_moves plan others s m rest) e
 
-pub moves_so : (v : RouterView) (m : Move) → first_move v ≡ Some m → MovesSo v m
-moves_so v m e = first_moves sides v m e
+pub moves_so : (plan : RouterPlan) (s : RouterState) (m : Move) → first_move plan s ≡ Some m → MovesSo plan s m
+moves_so plan s m e = first_moves plan sides s m e
 
-route_at : (f : Letter → ℕ) (tables : List Table) (v : RouterView) (m : Move) → WithinLimits v.plan.shape → Accepted v.plan.shape tables → WellShaped v → v.plan.beats ≡ table_of v.plan.shape tables v.plan.board → MovesSo v m → router_w f (reach v.plan.shape tables) (carried v m) ≡ router_w f (reach v.plan.shape tables) v
+route_at : (f : Letter → ℕ) (tables : List Table) (v : RouterView) (m : Move) → WithinLimits v.plan.shape → Accepted v.plan.shape tables → WellShaped v → v.plan.beats ≡ table_of v.plan.shape tables v.plan.board → MovesSo v.plan v.now m → router_w f (reach v.plan.shape tables) (with_now v (carried v.now m)) ≡ router_w f (reach v.plan.shape tables) v
 route_at f tables v m limits accepted shaped beats s =
     let on : Reach = reach v.plan.shape tables in
     let n : ShapeNumbers = v.plan.shape in
     let b : Board = v.plan.board in
     let x : Move = move_of n b v.plan.beats s.side s.work in
     let from : MovesFrom s.side s.work x = from_to n b v.plan.beats s.side s.work s.work.packet.dest in
-    let fits : FitsWork n v.plan.beats s.work = work_fits v s.side s.work shaped s.there in
+    let fits : FitsWork n v.plan.beats s.work = work_fits v.plan v.now s.side s.work shaped.fits s.there in
     let weighs : Weighs f on n b v.plan.beats s.work x = subst (λ t. FitsWork n t s.work → Weighs f on n b t s.work (move_of n b t s.side s.work)) (sym beats)
     (λ h. move_weighs f n tables b s.side s.work limits accepted shaped.board h) fits in
     let sent = sent_more f on n b s.work.packet x.sent v.now.node.out from.sent (ap (λ (y : Move). has_room y.sent v.now.node.out) (sym s.is) ∙ s.room) in
-    let set = works_set f on n b v.plan.beats s.side x.work v.now.inputs (side_there s.side v.now.inputs s.work s.there) in
-    let was : work_w f on n b v.plan.beats (work_at s.side v.now.inputs) ≡ work_w f on n b v.plan.beats (Some s.work) = ap (work_w f on n b v.plan.beats) s.there in
-    let side : works_w f on n b v.plan.beats (with_work x.side x.work v.now.inputs) ≡ works_w f on n b v.plan.beats (with_work s.side x.work v.now.inputs) = ap (λ z. works_w f on n b v.plan.beats (with_work z x.work v.now.inputs)) from.side_is in
-    let all : router_w f on (carried v x) ≡ router_w f on v = omega arith in
-    ap (λ (y : Move). router_w f on (carried v y)) s.is ∙ all
+    let set = works_set f on n b v.plan.beats s.side x.work v.now.inputs (port_there s.side v.now.inputs s.work s.there) in
+    let was : work_w f on n b v.plan.beats (at s.side v.now.inputs) ≡ work_w f on n b v.plan.beats (Some s.work) = ap (work_w f on n b v.plan.beats) s.there in
+    let side : works_w f on n b v.plan.beats (with_at x.side x.work v.now.inputs) ≡ works_w f on n b v.plan.beats (with_at s.side x.work v.now.inputs) = ap (λ z. works_w f on n b v.plan.beats (with_at z x.work v.now.inputs)) from.side_is in
+    let all : router_w f on (with_now v (carried v.now x)) ≡ router_w f on v = omega arith in
+    ap (λ (y : Move). router_w f on (with_now v (carried v.now y))) s.is ∙ all
 
 -- a Route changes no letter
-pub route_weighs : (f : Letter → ℕ) (n : ShapeNumbers) (tables : List Table) (v : RouterView) (m : Move) → v.plan.shape ≡ n → WithinLimits n → Accepted n tables → WellShaped v → v.plan.beats ≡ table_of n tables v.plan.board → MovesSo v m → router_w f (reach n tables) (carried v m) ≡ router_w f (reach n tables) v
+pub route_weighs : (f : Letter → ℕ) (n : ShapeNumbers) (tables : List Table) (v : RouterView) (m : Move) → v.plan.shape ≡ n → WithinLimits n → Accepted n tables → WellShaped v → v.plan.beats ≡ table_of n tables v.plan.board → MovesSo v.plan v.now m → router_w f (reach n tables) (with_now v (carried v.now m)) ≡ router_w f (reach n tables) v
 route_weighs f n tables v m same limits accepted shaped beats s =
-    subst (λ k. WithinLimits k → Accepted k tables → v.plan.beats ≡ table_of k tables v.plan.board → router_w f (reach k tables) (carried v m) ≡ router_w f (reach k tables) v) same
+    subst (λ k. WithinLimits k → Accepted k tables → v.plan.beats ≡ table_of k tables v.plan.board → router_w f (reach k tables) (with_now v (carried v.now m)) ≡ router_w f (reach k tables) v) same
     (λ l a b. route_at f tables v m l a shaped b s) limits accepted beats

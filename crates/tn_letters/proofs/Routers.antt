@@ -21,14 +21,19 @@ use Rattle.tn_keys.specs.Tables.{table_of}
 use Rattle.tn_link.specs.LinkRows.{front_of, put_in, take_from}
 use Rattle.tn_link.specs.LinkView.{LinkView}
 use Rattle.tn_router.specs.declared.moves.Move.{Move}
-use Rattle.tn_router.specs.Kept.{FitsWay, WellShaped, is_keyed, leads_on}
+use Rattle.tn_node.specs.NodeRows.{give_row, offered}
+use Rattle.tn_node.specs.PortRows.{at, with_at}
+use Rattle.tn_node.proofs.Given.{given}
+use Rattle.tn_router.specs.declared.state.RouterState.{RouterState}
+use Rattle.tn_router.specs.Kept.{FitsWay, IsFit, is_keyed, leads_on}
 use Rattle.tn_router.specs.Left.{board_on}
-use Rattle.tn_router.specs.Places.{buffer_at, has_side, with_buffer, with_work, work_at}
+use Rattle.tn_router.specs.Places.{has_side}
 use Rattle.tn_router.specs.Rest.{started}
-use Rattle.tn_router.specs.Rows.{accept_row, arrived, can_accept, carried as moved, depart_row, first_move, offered, route_row}
-use Rattle.tn_router.specs.RouterView.{RouterView}
+use Rattle.tn_router.specs.Rows.{accept_row, carried as moved, depart_row, first_move, route_row, with_node}
+use Rattle.tn_router.specs.RouterView.{RouterView, now_by, with_now}
 use Rattle.tn_router.proofs.Moved.{placed_fits}
-use Rattle.tn_router.proofs.Shaped.{accepts, carried_shaped, departs, gone_shaped, notes_shaped, work_shaped}
+use Rattle.tn_router.proofs.Deeds.{accept_deed, accept_shaped, depart_deed, depart_shaped}
+use Rattle.tn_router.proofs.Shaped.{accepts, carried_shaped}
 use Rattle.tn_stamp.specs.declared.entry.Crossing.TheVariants as crossing
 use Rattle.tn_tile.proofs.Steps.{taken}
 use Rattle.tn_rows.specs.Events.{Met, met_by, met_with, with_both, with_part}
@@ -45,9 +50,9 @@ use Rattle.tn_letters.proofs.Copies.{out_weighs, started_weighs}
 use Rattle.tn_letters.proofs.Crossings.{home_put, home_take, put_more, take_less}
 use Rattle.tn_letters.proofs.Lift.{Good, GoodRouter, Homed, OnLink, OnRouter, StandsAt, leads_to_tile, part_on, stands_on}
 use Rattle.tn_letters.proofs.Links.{Shifted, Shifts, both_shifted, link_shifts, shifted, two_parts}
-use Rattle.tn_letters.proofs.Moves.{moves_so, outs_set, route_weighs, way_there, works_set, IsSide}
+use Rattle.tn_letters.proofs.Moves.{moves_so, outs_set, port_there, route_weighs, works_set}
 use Rattle.tn_letters.proofs.Simulate.{Reached}
-use Rattle.tn_letters.proofs.Weights.{crossing_w, out_w, router_w, work_w}
+use Rattle.tn_letters.proofs.Weights.{crossing_w, out_w, outs_w, router_w, work_w, works_w}
 
 -- a machine in which letters moved and no thread did anything
 still_becomes : (w there : WorldView) → Shifted w there nothing nothing → Becomes w there []
@@ -66,60 +71,61 @@ still_reached got dropped w there s = becomes_reached got dropped w there [] (ap
 router_on : (w : WorldView) (p : ℕ) (v : RouterView) → Good w → OnRouter w p v → GoodRouter w.shape (tables_of w) v
 router_on w p v good on = part_on w p (RouterV v) good on
 
-still_router : (k : Kind) (v new : RouterView) → new.plan.board ≡ v.plan.board → StandsAt k (RouterV v) → StandsAt k (RouterV new)
-still_router kind.Host v new e h = absurd h
-still_router (kind.Tile tile) v new e h = absurd h
-still_router (kind.Router board) v new e h = e ∙ h
-still_router (kind.Link from onto) v new e h = absurd h
-still_router kind.Detector v new e h = absurd h
+still_router : (k : Kind) (v : RouterView) (new : RouterState) → StandsAt k (RouterV v) → StandsAt k (RouterV (with_now v new))
+still_router kind.Host v new h = absurd h
+still_router (kind.Tile tile) v new h = absurd h
+still_router (kind.Router board) v new h = h
+still_router (kind.Link from onto) v new h = absurd h
+still_router kind.Detector v new h = absurd h
 
-router_shifts : (w : WorldView) (p : ℕ) (v new : RouterView) (came gone : (Letter → ℕ) → ℕ) → Good w → OnRouter w p v → new.plan.shape ≡ v.plan.shape → new.plan.board ≡ v.plan.board → new.plan.beats ≡ v.plan.beats → WellShaped new →
-    ((f : Letter → ℕ) → came f + router_w f (reach_of w) v ≡ gone f + router_w f (reach_of w) new) → Shifts w p (RouterV v) (RouterV new) came gone
-router_shifts w p v new came gone good on shape board beats shaped weighs =
+router_shifts : (w : WorldView) (p : ℕ) (v : RouterView) (new : RouterState) (came gone : (Letter → ℕ) → ℕ) → Good w → OnRouter w p v → IsFit v.plan new →
+    ((f : Letter → ℕ) → came f + router_w f (reach_of w) v ≡ gone f + router_w f (reach_of w) (with_now v new)) → Shifts w p (RouterV v) (RouterV (with_now v new)) came gone
+router_shifts w p v new came gone good on fits weighs =
     let t = router_on w p v good on in
     record {
       on = on;
       was = record { tile = refl; dropped = refl };
       is = record { tile = refl; dropped = refl };
-      beats = beats;
-      stands = still_router (kind_of w.shape p) v new board (stands_on w p (RouterV v) good on);
-      good = record { shape = shape ∙ t.shape; shaped = shaped; beats = beats ∙ (t.beats ∙ ap (table_of w.shape (tables_of w)) (sym board)) };
+      beats = refl;
+      stands = still_router (kind_of w.shape p) v new (stands_on w p (RouterV v) good on);
+      good = record { shape = t.shape; shaped = record { board = t.shaped.board; fits = fits }; beats = t.beats };
       weighs = weighs;
     }
 
 -- ---- a Route
 
-did_move : (v new : RouterView) (o : Option Move) → option_map (moved v) o ≡ Some new → (m : Move) × (o ≡ Some m) × (moved v m ≡ new)
-did_move v new None e = cc e
-did_move v new (Some m) e = (m, refl, ap (λ (x : Option RouterView). unwrap_or x new) e)
+did_move : (s new : RouterState) (o : Option Move) → option_map (moved s) o ≡ Some new → (m : Move) × (o ≡ Some m) × (moved s m ≡ new)
+did_move s new None e = cc e
+did_move s new (Some m) e = (m, refl, ap (λ (x : Option RouterState). unwrap_or x new) e)
 
-pub route_reached : (got : ℕ → List Letter) (dropped : List Letter) (w : WorldView) (p : ℕ) (v new : RouterView) → Good w → OnRouter w p v → route_row v ≡ Some new → Reached got dropped w [] (with_part w p (RouterV new))
+pub route_reached : (got : ℕ → List Letter) (dropped : List Letter) (w : WorldView) (p : ℕ) (v : RouterView) (new : RouterState) → Good w → OnRouter w p v → route_row v.plan v.now ≡ Some new → Reached got dropped w [] (with_part w p (RouterV (with_now v new)))
 route_reached got dropped w p v new good on row =
     let t = router_on w p v good on in
-    let m = did_move v new (first_move v) row in
-    let so = moves_so v m.0 m.1 in
-    let shaped : WellShaped (moved v m.0) = carried_shaped v m.0 (placed_fits v so.side so.work m.0 t.shaped so.there so.is) t.shaped in
-    let s : Shifts w p (RouterV v) (RouterV (moved v m.0)) nothing nothing = router_shifts w p v (moved v m.0) nothing nothing good on refl refl refl shaped
+    let m = did_move v.now new (first_move v.plan v.now) row in
+    let so = moves_so v.plan v.now m.0 m.1 in
+    let fits : IsFit v.plan (moved v.now m.0) = carried_shaped v.plan v.now m.0 (placed_fits v.plan v.now so.side so.work m.0 t.shaped.board t.shaped.fits so.there so.is) t.shaped.fits in
+    let s : Shifts w p (RouterV v) (RouterV (with_now v (moved v.now m.0))) nothing nothing = router_shifts w p v (moved v.now m.0) nothing nothing good on fits
     (λ f. let e = route_weighs f w.shape (tables_of w) v m.0 t.shape good.limits good.accepted t.shaped t.beats so in omega arith) in
-    subst (λ (x : RouterView). Reached got dropped w [] (with_part w p (RouterV x))) m.2
-    (still_reached got dropped w (with_part w p (RouterV (moved v m.0))) (shifted w p (RouterV v) (RouterV (moved v m.0)) nothing nothing good s))
+    subst (λ (x : RouterState). Reached got dropped w [] (with_part w p (RouterV (with_now v x)))) m.2
+    (still_reached got dropped w (with_part w p (RouterV (with_now v (moved v.now m.0)))) (shifted w p (RouterV v) (RouterV (with_now v (moved v.now m.0))) nothing nothing good s))
 
 -- ---- rows of both parts
 
-pub record Both (t : Option RouterView) (l : Option LinkView) (m : Met) : Type 0 where
-  pub new : RouterView
+pub record Both (v : RouterView) (t : Option RouterState) (l : Option LinkView) (m : Met) : Type 0 where
+  pub new : RouterState
   pub next : LinkView
   pub router : t ≡ Some new
   pub link : l ≡ Some next
-  pub low : RouterV new ≡ m.low
+  pub low : RouterV (with_now v new) ≡ m.low
   pub high : LinkV next ≡ m.high
 
-both_rows : (t : Option RouterView) (l : Option LinkView) (m : Met) → met_by (option_map RouterV t) (option_map LinkV l) ≡ Some m → Both t l m
-both_rows t l m e =
-    let rows = met_rows (option_map RouterV t) (option_map LinkV l) m e in
-    let low = mapped RouterV t m.low rows.0 in
+both_rows : (v : RouterView) (t : Option RouterState) (l : Option LinkView) (m : Met) → met_by (option_map RouterV (now_by v t)) (option_map LinkV l) ≡ Some m → Both v t l m
+both_rows v t l m e =
+    let rows = met_rows (option_map RouterV (now_by v t)) (option_map LinkV l) m e in
+    let low = mapped RouterV (now_by v t) m.low rows.0 in
+    let now = mapped (with_now v) t low.0 low.1 in
     let high = mapped LinkV l m.high rows.1 in
-    record { new = low.0; next = high.0; router = low.1; link = high.1; low = low.2; high = high.2 }
+    record { new = now.0; next = high.0; router = now.1; link = high.1; low = ap RouterV now.2 ∙ low.2; high = high.2 }
 
 pair_is : (w : WorldView) (p q : ℕ) (new : RouterView) (next : LinkView) (m : Met) → RouterV new ≡ m.low → LinkV next ≡ m.high → with_both w p q m ≡ with_part (with_part w p (RouterV new)) q (LinkV next)
 pair_is w p q new next m low high = λ i. with_both w p q (record { low = sym low i; high = sym high i })
@@ -143,20 +149,20 @@ keyed_leads true true e h = refl
 keyed_leads true false e h = cc e
 keyed_leads false c e h = cc h
 
-depart_reached : (got : ℕ → List Letter) (dropped : List Letter) (w : WorldView) (p q : ℕ) (v new : RouterView) (x y : LinkView) (way : Port) (k : Packet) (there : WorldView) → Good w → OnRouter w p v → OnLink w q x → LeadsTo v way (link_board w.shape q) →
-    (leads_to_tile w.shape (kind_of w.shape q) ≡ true → leads_on way ≡ false) → offered way v ≡ Some k → depart_row way v ≡ Some new → put_in k x ≡ Some y → there ≡ with_part (with_part w p (RouterV new)) q (LinkV y) → Reached got dropped w [] there
+depart_reached : (got : ℕ → List Letter) (dropped : List Letter) (w : WorldView) (p q : ℕ) (v : RouterView) (new : RouterState) (x y : LinkView) (way : Port) (k : Packet) (there : WorldView) → Good w → OnRouter w p v → OnLink w q x → LeadsTo v way (link_board w.shape q) →
+    (leads_to_tile w.shape (kind_of w.shape q) ≡ true → leads_on way ≡ false) → offered way v.now.node ≡ Some k → depart_row way v.now ≡ Some new → put_in k x ≡ Some y → there ≡ with_part (with_part w p (RouterV (with_now v new))) q (LinkV y) → Reached got dropped w [] there
 depart_reached got dropped w p q v new x y way k there good on off leads down offer row put is =
     let t = router_on w p v good on in
     let n : ShapeNumbers = v.plan.shape in
     let here : at way v.now.node.out ≡ Some k = not_held v.now.node.held (at way v.now.node.out) k offer in
-    let fits : FitsWay n v.plan.board way k = subst (λ (o : Option Packet). MatchOption o (Unit {0}) (FitsWay n v.plan.board way)) here (t.shaped.waits way) in
-    let d = departs way v (ap (λ (o : Option RouterView). is_some o) row) in
-    let gone : RouterView = @@record v { out = with_buffer way None v.now.node.out; counter = v.now.node.counter +ℤ pos 1 } in
-    let same : gone ≡ new = ap (λ (o : Option RouterView). unwrap_or o new) (sym d.row ∙ row) in
-    let shaped : WellShaped gone = notes_shaped (@@record v { out = with_buffer way None v.now.node.out }) (v.now.node.counter +ℤ pos 1) v.now.node.black v.now.node.held v.now.ended (gone_shaped v way t.shaped) in
-    let low : Shifts w p (RouterV v) (RouterV gone) nothing (on_link w q k) = router_shifts w p v gone nothing (on_link w q k) good on refl refl refl shaped
+    let fits : FitsWay n v.plan.board way k = subst (λ (o : Option Packet). MatchOption o (Unit {0}) (FitsWay n v.plan.board way)) here (t.shaped.fits.waits way) in
+    let d = depart_deed way v.now new row in
+    let shaped : IsFit v.plan new = depart_shaped v.plan way v.now new t.shaped.fits row in
+    let low : Shifts w p (RouterV v) (RouterV (with_now v new)) nothing (on_link w q k) = router_shifts w p v new nothing (on_link w q k) good on shaped
     (λ f.
-    let set = outs_set f (reach_of w) n v.plan.board way None v.now.node.out (way_there way v.now.node.out k here) in
+    let set = outs_set f (reach_of w) n v.plan.board way None v.now.node.out (port_there way v.now.node.out k here) in
+    let out : outs_w f (reach_of w) n v.plan.board new.node.out ≡ outs_w f (reach_of w) n v.plan.board (with_at way None v.now.node.out) = ap (outs_w f (reach_of w) n v.plan.board) d.out in
+    let inputs : works_w f (reach_of w) n v.plan.board v.plan.beats new.inputs ≡ works_w f (reach_of w) n v.plan.board v.plan.beats v.now.inputs = ap (works_w f (reach_of w) n v.plan.board v.plan.beats) d.inputs in
     let was : out_w f (reach_of w) n v.plan.board way (at way v.now.node.out) ≡ out_w f (reach_of w) n v.plan.board way (Some k) = ap (out_w f (reach_of w) n v.plan.board way) here in
     let weighs = out_weighs f n (reach_of w) v.plan.board (link_board w.shape q) way k (subst WithinLimits (sym t.shape) good.limits) fits.0 (λ keyed. leads (keyed_leads (is_keyed k.dest) (leads_on way) fits.1 keyed)) in
     let shape : crossing_w f (link_board w.shape q) n (reach_of w) k ≡ on_link w q k f = ap (λ m. crossing_w f (link_board w.shape q) m (reach_of w) k) t.shape in
@@ -165,68 +171,58 @@ depart_reached got dropped w p q v new x y way k there good on off leads down of
     let high : Shifts w q (LinkV x) (LinkV y) (on_link w q k) nothing = link_shifts w q x y (on_link w q k) nothing good off (home_put w.shape q k x y put (part_on w q (LinkV x) good off) home)
     (λ f. let more = put_more f (link_board w.shape q) w.shape (reach_of w) k x y put in omega arith) in
     still_reached got dropped w there
-    (both_shifted w p q (RouterV v) (LinkV x) (RouterV gone) (LinkV y) nothing (on_link w q k) good (two_parts w p q (RouterV v) (LinkV x) on off (λ e. cc e)) low high there
-    (is ∙ ap (λ (z : RouterView). with_part (with_part w p (RouterV z)) q (LinkV y)) (sym same)))
+    (both_shifted w p q (RouterV v) (LinkV x) (RouterV (with_now v new)) (LinkV y) nothing (on_link w q k) good (two_parts w p q (RouterV v) (LinkV x) on off (λ e. cc e)) low high there is)
   where
     no_both : (b : Bool) → b ≡ true → b ≡ false → ⊥
     no_both b e f = cc (e, f)
 
 depart_by : (got : ℕ → List Letter) (dropped : List Letter) (w : WorldView) (p q : ℕ) (v : RouterView) (x : LinkView) (m : Met) (here there : PartId) (o : Option Packet) → Good w → OnRouter w p v → OnLink w q x → LeadsTo v (link_way v.plan.shape there.0) (link_board w.shape q) →
-    (leads_to_tile w.shape (kind_of w.shape q) ≡ true → leads_on (link_way v.plan.shape there.0) ≡ false) → offered (link_way v.plan.shape there.0) v ≡ o →
+    (leads_to_tile w.shape (kind_of w.shape q) ≡ true → leads_on (link_way v.plan.shape there.0) ≡ false) → offered (link_way v.plan.shape there.0) v.now.node ≡ o →
     met_with (event.Depart here there) (RouterV v) (LinkV x) (option_map crossing.Packet o) ≡ Some m → Reached got dropped w [] (with_both w p q m)
 depart_by got dropped w p q v x m here there None good on off leads down offer is = cc is
 depart_by got dropped w p q v x m here there (Some k) good on off leads down offer is =
     let way : Port = link_way v.plan.shape there.0 in
-    let b = both_rows (cond (is_packet k (offered way v)) (depart_row way v) None) (put_in k x) m is in
-    let row = taken (is_packet k (offered way v)) (depart_row way v) b.new b.router in
-    depart_reached got dropped w p q v b.new x b.next way k (with_both w p q m) good on off leads down offer row.1 b.link (pair_is w p q b.new b.next m b.low b.high)
+    let b = both_rows v (option_map (with_node v.now) (give_row way k v.now.node)) (put_in k x) m is in
+    let row : depart_row way v.now ≡ Some b.new = sym (ap (λ o. option_map (with_node v.now) o) (given way k v.now.node offer)) ∙ b.router in
+    depart_reached got dropped w p q v b.new x b.next way k (with_both w p q m) good on off leads down offer row b.link (pair_is w p q (with_now v b.new) b.next m b.low b.high)
 
 pub departure_reached : (got : ℕ → List Letter) (dropped : List Letter) (w : WorldView) (p q : ℕ) (v : RouterView) (x : LinkView) (m : Met) (here there : PartId) → Good w → OnRouter w p v → OnLink w q x → LeadsTo v (link_way v.plan.shape there.0) (link_board w.shape q) →
     (leads_to_tile w.shape (kind_of w.shape q) ≡ true → leads_on (link_way v.plan.shape there.0) ≡ false) →
-    met_with (event.Depart here there) (RouterV v) (LinkV x) (option_map crossing.Packet (offered (link_way v.plan.shape there.0) v)) ≡ Some m → Reached got dropped w [] (with_both w p q m)
-departure_reached got dropped w p q v x m here there good on off leads down is = depart_by got dropped w p q v x m here there (offered (link_way v.plan.shape there.0) v) good on off leads down refl is
+    met_with (event.Depart here there) (RouterV v) (LinkV x) (option_map crossing.Packet (offered (link_way v.plan.shape there.0) v.now.node)) ≡ Some m → Reached got dropped w [] (with_both w p q m)
+departure_reached got dropped w p q v x m here there good on off leads down is = depart_by got dropped w p q v x m here there (offered (link_way v.plan.shape there.0) v.now.node) good on off leads down refl is
 
 -- ---- an arrival
 
-side_is : (side : Port) (n : ShapeNumbers) (b : Board) → has_side n b side ≡ true → IsSide side
-side_is port.East n b e = tt
-side_is port.West n b e = tt
-side_is port.South n b e = tt
-side_is port.North n b e = tt
-side_is port.Up n b e = tt
-side_is port.HostPort n b e = tt
-side_is port.Down n b e = cc e
-side_is port.Here n b e = cc e
+-- a link leads to a router from a side
+side_is : (side : Port) (n : ShapeNumbers) (b : Board) → has_side n b side ≡ true → side ≡ port.Here → ⊥
+side_is side n b e here = let no : false ≡ true = sym (ap (has_side n b) here) ∙ e in cc no
 
 empty_place : {A : Type 0} (o : Option A) → is_none o ≡ true → o ≡ None
 empty_place None e = refl
 empty_place (Some x) e = cc e
 
-arrive_reached : (got : ℕ → List Letter) (dropped : List Letter) (w : WorldView) (p q : ℕ) (v new : RouterView) (x y : LinkView) (side : Port) (k : Packet) (there : WorldView) → Good w → OnRouter w p v → OnLink w q x → link_board w.shape q ≡ v.plan.board →
-    front_of x ≡ Some k → accept_row side k v ≡ Some new → take_from x ≡ Some y → there ≡ with_part (with_part w p (RouterV new)) q (LinkV y) → Reached got dropped w [] there
+arrive_reached : (got : ℕ → List Letter) (dropped : List Letter) (w : WorldView) (p q : ℕ) (v : RouterView) (new : RouterState) (x y : LinkView) (side : Port) (k : Packet) (there : WorldView) → Good w → OnRouter w p v → OnLink w q x → link_board w.shape q ≡ v.plan.board →
+    front_of x ≡ Some k → accept_row v.plan side k v.now ≡ Some new → take_from x ≡ Some y → there ≡ with_part (with_part w p (RouterV (with_now v new))) q (LinkV y) → Reached got dropped w [] there
 arrive_reached got dropped w p q v new x y side k there good on off board front row take is =
     let t = router_on w p v good on in
     let n : ShapeNumbers = v.plan.shape in
-    let a = accepts side k v (ap (λ (o : Option RouterView). is_some o) row) in
-    let came : RouterView = arrived side k v in
-    let same : came ≡ new = ap (λ (o : Option RouterView). unwrap_or o new) (sym a.row ∙ row) in
-    let tests = and_parts (can_accept side k v) _ (taken _ (Some (arrived side k v)) new row).0 in
-    let parts = and_parts (has_side n v.plan.board side && is_none (work_at side v.now.inputs)) (has_packet n k) tests.0 in
-    let place = and_parts (has_side n v.plan.board side) (is_none (work_at side v.now.inputs)) parts.0 in
-    let shaped : WellShaped came = notes_shaped (@@record v { process = with_work side (Some (started v.plan.beats k)) v.now.inputs }) came.counter true v.now.node.held v.now.ended (work_shaped v side (Some (started v.plan.beats k)) a.fits t.shaped) in
-    let low : Shifts w p (RouterV v) (RouterV came) (on_link w q k) nothing = router_shifts w p v came (on_link w q k) nothing good on refl refl refl shaped
+    let a = accepts v.plan side k v.now (ap (λ (o : Option RouterState). is_some o) row) in
+    let d = accept_deed v.plan side k v.now new row in
+    let shaped : IsFit v.plan new = accept_shaped v.plan side k v.now new t.shaped.fits row in
+    let low : Shifts w p (RouterV v) (RouterV (with_now v new)) (on_link w q k) nothing = router_shifts w p v new (on_link w q k) nothing good on shaped
     (λ f.
-    let set = works_set f (reach_of w) n v.plan.board v.plan.beats side (Some (started v.plan.beats k)) v.now.inputs (side_is side n v.plan.board place.0) in
-    let none : work_w f (reach_of w) n v.plan.board v.plan.beats (work_at side v.now.inputs) ≡ 0 = ap (work_w f (reach_of w) n v.plan.board v.plan.beats) (empty_place (work_at side v.now.inputs) place.1) in
-    let weighs : work_w f (reach_of w) n v.plan.board v.plan.beats (Some (started v.plan.beats k)) ≡ crossing_w f v.plan.board n (reach_of w) k = came_weighs f w v k good t parts.1 in
+    let set = works_set f (reach_of w) n v.plan.board v.plan.beats side (Some (started v.plan.beats k)) v.now.inputs (side_is side n v.plan.board a.there) in
+    let out : outs_w f (reach_of w) n v.plan.board new.node.out ≡ outs_w f (reach_of w) n v.plan.board v.now.node.out = ap (outs_w f (reach_of w) n v.plan.board) d.out in
+    let inputs : works_w f (reach_of w) n v.plan.board v.plan.beats new.inputs ≡ works_w f (reach_of w) n v.plan.board v.plan.beats (with_at side (Some (started v.plan.beats k)) v.now.inputs) = ap (works_w f (reach_of w) n v.plan.board v.plan.beats) d.inputs in
+    let none : work_w f (reach_of w) n v.plan.board v.plan.beats (at side v.now.inputs) ≡ 0 = ap (work_w f (reach_of w) n v.plan.board v.plan.beats) (empty_place (at side v.now.inputs) a.free) in
+    let weighs : work_w f (reach_of w) n v.plan.board v.plan.beats (Some (started v.plan.beats k)) ≡ crossing_w f v.plan.board n (reach_of w) k = came_weighs f w v k good t a.packet in
     let shape : crossing_w f v.plan.board n (reach_of w) k ≡ on_link w q k f = ap (λ m. crossing_w f v.plan.board m (reach_of w) k) t.shape ∙ ap (λ (c : Board). crossing_w f c w.shape (reach_of w) k) (sym board) in
     omega arith) in
     let homes = home_take w.shape q k x y front take (part_on w q (LinkV x) good off) in
     let high : Shifts w q (LinkV x) (LinkV y) nothing (on_link w q k) = link_shifts w q x y nothing (on_link w q k) good off homes.1
     (λ f. let less = take_less f (link_board w.shape q) w.shape (reach_of w) k x y front take in omega arith) in
     still_reached got dropped w there
-    (both_shifted w p q (RouterV v) (LinkV x) (RouterV came) (LinkV y) (on_link w q k) nothing good (two_parts w p q (RouterV v) (LinkV x) on off (λ e. cc e)) low high there
-    (is ∙ ap (λ (z : RouterView). with_part (with_part w p (RouterV z)) q (LinkV y)) (sym same)))
+    (both_shifted w p q (RouterV v) (LinkV x) (RouterV (with_now v new)) (LinkV y) (on_link w q k) nothing good (two_parts w p q (RouterV v) (LinkV x) on off (λ e. cc e)) low high there is)
   where
     came_weighs : (f : Letter → ℕ) (w : WorldView) (v : RouterView) (k : Packet) → Good w → GoodRouter w.shape (tables_of w) v → IsTrue (has_packet v.plan.shape k) → work_w f (reach_of w) v.plan.shape v.plan.board v.plan.beats (Some (started v.plan.beats k)) ≡ crossing_w f v.plan.board v.plan.shape (reach_of w) k
     came_weighs f w v k good t fits =
@@ -238,9 +234,9 @@ arrive_by : (got : ℕ → List Letter) (dropped : List Letter) (w : WorldView) 
 arrive_by got dropped w p q v x m there here None good on off board front is = cc is
 arrive_by got dropped w p q v x m there here (Some k) good on off board front is =
     let side : Port = link_side v.plan.shape there.0 in
-    let b = both_rows (accept_row side k v) (cond (is_packet k (front_of x)) (take_from x) None) m is in
+    let b = both_rows v (accept_row v.plan side k v.now) (cond (is_packet k (front_of x)) (take_from x) None) m is in
     let take = taken (is_packet k (front_of x)) (take_from x) b.next b.link in
-    arrive_reached got dropped w p q v b.new x b.next side k (with_both w p q m) good on off board front b.router take.1 (pair_is w p q b.new b.next m b.low b.high)
+    arrive_reached got dropped w p q v b.new x b.next side k (with_both w p q m) good on off board front b.router take.1 (pair_is w p q (with_now v b.new) b.next m b.low b.high)
 
 pub arrival_reached : (got : ℕ → List Letter) (dropped : List Letter) (w : WorldView) (p q : ℕ) (v : RouterView) (x : LinkView) (m : Met) (there here : PartId) → Good w → OnRouter w p v → OnLink w q x → link_board w.shape q ≡ v.plan.board →
     met_with (event.Arrive there here) (RouterV v) (LinkV x) (option_map crossing.Packet (front_of x)) ≡ Some m → Reached got dropped w [] (with_both w p q m)

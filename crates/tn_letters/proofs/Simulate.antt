@@ -20,7 +20,7 @@ use Rattle.tn_tile.specs.Step.{acted, can_step, next_step, no_thread, pending_at
 use Rattle.tn_tile.specs.declared.state.TileState.{TileState}
 use Rattle.tn_tile.specs.TileView.{TileView, with_now}
 use Rattle.tn_tile.proofs.Packed.{few_places}
-use Rattle.tn_tile.proofs.Shaped.{step_fit}
+use Rattle.tn_tile.proofs.Moved.{next_fits, step_fits}
 use Rattle.tn_rows.specs.PartView.{TileV, AbsentV}
 use Rattle.tn_rows.specs.WorldView.{WorldView}
 use Rattle.tn_letters.specs.declared.steps.BagStep.{BagStep}
@@ -32,7 +32,6 @@ use Rattle.tn_letters.specs.Standing.{bag_at, standing_letters}
 use Rattle.tn_letters.specs.State.{Agree, BagState, put}
 use Rattle.tn_letters.specs.Steps.{seen_at}
 use Rattle.tn_letters.specs.Tiles.{held_in, letter_in, part_for, program_of, reach_of, thread_in, thread_of, tile_for}
-use Rattle.tn_letters.proofs.Fits.{next_fits}
 use Rattle.tn_letters.proofs.Homes.{home_same}
 use Rattle.tn_letters.proofs.Lift.{Good, GoodTile, On, Stands, good_lift, good_now, lift_put, lift_same, part_is, place_within, program_stays, tile_is, tile_on, tile_stands, with_tile}
 use Rattle.tn_letters.proofs.Runs.{same_refl}
@@ -198,17 +197,16 @@ threads_after got dropped w p a k v new c e =
 pub own_op : (got : ℕ → List Letter) (dropped : List Letter) (w : WorldView) (p a k : ℕ) (v : TileView) (o : Op) → Place w p v a k → (step_at_place v.plan.code k v.now).op ≡ o → (own_step (program_of w) a (seen_at v k) (shown got dropped w)).op ≡ o
 own_op got dropped w p a k v o c e = ap (λ (r : Stepped). r.op) (own_is got dropped w p a k v c) ∙ e
 
-pub step_fits : (v : TileView) (k : ℕ) → can_step v.plan.shape.fuel k v.now ≡ true → StepFits (sight_at v.now k) (thread_at v.now k) (step_at_place v.plan.code k v.now)
-step_fits v k can = next_fits v.plan.code (sight_at v.now k) (thread_at v.now k) (and_parts _ _ can).0
+pub does_fit : (v : TileView) (k : ℕ) → can_step v.plan.shape.fuel k v.now ≡ true → StepFits (sight_at v.now k) (thread_at v.now k) (step_at_place v.plan.code k v.now)
+does_fit v k can = next_fits v.plan.code (sight_at v.now k) (thread_at v.now k) (and_parts _ _ can).0
 
 pub op_fits : (v : TileView) (k : ℕ) (o : Op) → can_step v.plan.shape.fuel k v.now ≡ true → (step_at_place v.plan.code k v.now).op ≡ o → OpFits (sight_at v.now k) (thread_at v.now k) (step_at_place v.plan.code k v.now).thread o
-op_fits v k o can e = subst (OpFits (sight_at v.now k) (thread_at v.now k) (step_at_place v.plan.code k v.now).thread) e (step_fits v k can).op
+op_fits v k o can e = subst (OpFits (sight_at v.now k) (thread_at v.now k) (step_at_place v.plan.code k v.now).thread) e (does_fit v k can).op
 
 pub fits_after : (w : WorldView) (p a k : ℕ) (v : TileView) (o : Op) → Place w p v a k → can_step v.plan.shape.fuel k v.now ≡ true → (step_at_place v.plan.code k v.now).op ≡ o → IsFit v.plan (next v k o)
 fits_after w p a k v o c can e =
     let z = sizes w p a k v c in
-    let r : Stepped = step_at_place v.plan.code k v.now in
-    subst (λ x. IsFit v.plan (next v k x)) e (step_fit v.plan v.now k (sight_at v.now k) r.thread r.op z.below (tile_good w p a k v c).shaped.fits (ltb-true _ _ (and_parts _ _ can).1) (step_fits v k can))
+    subst (λ x. IsFit v.plan (next v k x)) e (step_fits v.plan k v.now z.below can (tile_good w p a k v c).shaped.fits)
 
 -- the count of the dropped letters, where a tile is another one
 pub dropped_after : (w : WorldView) (p : ℕ) (v new : TileView) → On w p v → dropped_in (with_tile w p new) + v.now.dropped ≡ dropped_in w + new.now.dropped

@@ -16,10 +16,9 @@ use Rattle.tn_base.specs.declared.port.Port.TheVariants as port
 use Rattle.tn_base.proofs.Listing.{mapped_at}
 use Rattle.tn_keys.specs.Tables.{HasBoard, Table, board_place, table_of}
 use Rattle.tn_link.specs.LinkView.{LinkView}
-use Rattle.tn_router.specs.Kept.{FitsWay, FitsWork, WellShaped as RouterShaped, fresh_router}
-use Rattle.tn_router.specs.Places.{buffer_at as waits_for, work_at}
+use Rattle.tn_node.specs.PortRows.{at, no_values}
+use Rattle.tn_router.specs.Kept.{FitsSide, FitsWay, WellShaped as RouterShaped, fresh_router}
 use Rattle.tn_router.specs.RouterView.{RouterView}
-use Rattle.tn_tile.specs.Rows.{buffer_at}
 use Rattle.tn_letters.specs.Letters.{board_of, link_board}
 use Rattle.tn_letters.specs.Tiles.{beats_on, tables_of}
 use Rattle.std.specs.List.{AllByRecursion, range_with_len}
@@ -71,20 +70,22 @@ none_there zero k = refl
 none_there (suc m) zero = refl
 none_there (suc m) (suc k) = none_there m k
 
-nobody_home : (b : Board) (m : ℕ) → HomeTile b (replicate m None) (record { east = None; west = None; south = None; north = None; up = None })
+-- no port of fresh ports has a value
+all_none : {X : Type 0} (P : Port → X → Type 0) (way : Port) → MatchOption (at way no_values) (Unit {0}) (P way)
+all_none P port.East = tt
+all_none P port.West = tt
+all_none P port.South = tt
+all_none P port.North = tt
+all_none P port.Up = tt
+all_none P port.Down = tt
+all_none P port.HostPort = tt
+all_none P port.Here = tt
+
+nobody_home : (b : Board) (m : ℕ) → HomeTile b (replicate m None) no_values
 nobody_home b m = record {
   sent = λ k. subst (λ (o : Option Packet). MatchOption o (Unit {0}) (Homed b)) (sym (none_there m k)) tt;
-  goes_on = λ way. nowhere b way;
-} where
-  nowhere : (b : Board) (way : Port) → MatchOption (buffer_at way (record { east = None; west = None; south = None; north = None; up = None })) (Unit {0}) (Homed b)
-  nowhere b port.East = tt
-  nowhere b port.West = tt
-  nowhere b port.South = tt
-  nowhere b port.North = tt
-  nowhere b port.Up = tt
-  nowhere b port.Down = tt
-  nowhere b port.HostPort = tt
-  nowhere b port.Here = tt
+  goes_on = all_none (λ way. Homed b);
+}
 
 good_tile : (w : WorldView) (p : ℕ) (v : TileView) → IsStart w → WithinLimits w.shape → On w p v → GoodTile w.shape p v
 good_tile w p v s limits on =
@@ -99,9 +100,9 @@ good_tile w p v s limits on =
     record {
       shape = f.2;
       shaped = subst (λ (x : TileView). WellShaped x) (sym fresh.3) (fresh_shaped n v.plan.tile fresh.0 fresh.1 there fresh.2);
-      kept = subst (λ (x : TileView). WellKept x.pool) (sym fresh.3) (fresh_kept n.slots (tile_threads n) (slot_bytes n) (limits.slots.1) (few_places n limits) (slot_room n));
+      kept = subst (λ (x : TileView). WellKept x.now.pool) (sym fresh.3) (fresh_kept n.slots (tile_threads n) (slot_bytes n) (limits.slots.1) (few_places n limits) (slot_room n));
       part = ap (λ x. tile_part (tile_place n x)) at ∙ (ap tile_part (tile_placed n t.i limits t.below) ∙ t.part);
-      home = subst (λ (x : TileView). HomeTile (board_of v.plan.tile) x.pending x.transit) (sym fresh.3) (nobody_home (board_of v.plan.tile) (tile_threads n));
+      home = subst (λ (x : TileView). HomeTile (board_of v.plan.tile) x.now.pending x.now.node.out) (sym fresh.3) (nobody_home (board_of v.plan.tile) (tile_threads n));
     }
 
 -- a router that fits its part is that of the part's board
@@ -113,28 +114,11 @@ fits_router n p v (kind.Link from onto) e f = absurd f
 fits_router n p v kind.Detector e f = absurd f
 
 -- a router at its start
-no_work : (n : ShapeNumbers) (b : Board) (beats : Table) (side : Port) → MatchOption (work_at side (fresh_router n b beats).process) (Unit {0}) (FitsWork n beats)
-no_work n b beats port.East = tt
-no_work n b beats port.West = tt
-no_work n b beats port.South = tt
-no_work n b beats port.North = tt
-no_work n b beats port.Up = tt
-no_work n b beats port.Down = tt
-no_work n b beats port.HostPort = tt
-no_work n b beats port.Here = tt
-
-no_wait : (n : ShapeNumbers) (b : Board) (beats : Table) (way : Port) → MatchOption (waits_for way (fresh_router n b beats).out) (Unit {0}) (FitsWay n b way)
-no_wait n b beats port.East = tt
-no_wait n b beats port.West = tt
-no_wait n b beats port.South = tt
-no_wait n b beats port.North = tt
-no_wait n b beats port.Up = tt
-no_wait n b beats port.Down = tt
-no_wait n b beats port.HostPort = tt
-no_wait n b beats port.Here = tt
-
 fresh_shape : (n : ShapeNumbers) (b : Board) (beats : Table) → HasBoard n b → RouterShaped (fresh_router n b beats)
-fresh_shape n b beats board = record { board = board; works = no_work n b beats; waits = no_wait n b beats }
+fresh_shape n b beats board = record {
+  board = board;
+  fits = record { works = all_none (FitsSide (fresh_router n b beats).plan); waits = all_none (λ way. FitsWay n b way) };
+}
 
 pub board_there : (n : ShapeNumbers) (i : ℕ) → WithinLimits n → i < board_count n → HasBoard n (board_at n i)
 board_there n i limits h = (mod_below i n.boards_x limits.boards_x.0, div_below i n.boards_x n.boards_y limits.boards_x.0 (omega arith))
@@ -208,7 +192,7 @@ good_start w s =
     }
 
 none_dropped : (n : ShapeNumbers) (part : PartView) → StartsSo n part → dropped_on part ≡ 0
-none_dropped n (TileV v) s = ap (λ (x : TileView). x.dropped) s.3
+none_dropped n (TileV v) s = ap (λ (x : TileView). x.now.dropped) s.3
 none_dropped n (RouterV v) s = refl
 none_dropped n (LinkV v) s = refl
 none_dropped n AbsentV s = refl

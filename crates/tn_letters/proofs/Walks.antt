@@ -5,22 +5,24 @@ use Rattle.tn_base.specs.declared.op.Op.{Op}
 use Rattle.tn_base.specs.declared.op.Op.TheVariants as op
 use Rattle.tn_base.specs.Address.{has_thread, place_in_tile}
 use Rattle.tn_thread.specs.declared.thread.Thread.{Thread}
-use Rattle.tn_tile.specs.Step.{acted, can_step, pending_at, step_at_place, stepped, thread_at, with_thread}
-use Rattle.tn_tile.specs.TileView.{TileView}
+use Rattle.tn_tile.specs.Step.{can_step, pending_at, stepped}
+use Rattle.tn_tile.specs.declared.state.TileState.{TileState}
+use Rattle.tn_tile.specs.TileView.{TileView, now_by, with_now}
 use Rattle.tn_link.specs.LinkRows.{front_of}
 use Rattle.tn_link.specs.LinkView.{LinkView}
 use Rattle.tn_rows.specs.PartView.{PartView, TileV, RouterV, LinkV, AbsentV}
 use Rattle.tn_rows.specs.WorldView.{WorldView}
 use Rattle.tn_letters.specs.declared.steps.BagStep.{BagStep}
 use Rattle.tn_letters.specs.Machine.{BagRun}
-use Rattle.tn_letters.specs.Steps.{thread_step}
+use Rattle.tn_letters.specs.Steps.{after_step, thread_step}
 use Rattle.tn_letters.specs.Tiles.{program_of, reach_of}
 use Rattle.tn_letters.proofs.Crossings.{arrival_reached, departure_reached}
 use Rattle.tn_letters.proofs.Routers.{LeadsTo, arrival_reached as router_arrival, departure_reached as router_departure, route_reached}
 use Rattle.tn_rows.proofs.Neighbours.{Near, links_near}
 use Rattle.tn_router.specs.Kept.{leads_on}
 use Rattle.tn_router.specs.Left.{board_on}
-use Rattle.tn_router.specs.RouterView.{RouterView}
+use Rattle.tn_router.specs.declared.state.RouterState.{RouterState}
+use Rattle.tn_router.specs.RouterView.{RouterView, now_by as router_now_by, with_now as router_with_now}
 use Rattle.tn_base.specs.declared.ids.Board.{Board}
 use Rattle.tn_base.specs.declared.ids.TileId.{TileId}
 use Rattle.tn_letters.specs.Letters.{board_ahead, board_of, kind_board, link_board}
@@ -41,7 +43,7 @@ use Rattle.tn_base.specs.declared.event.Event.TheVariants as event
 use Rattle.tn_tile.specs.Rows.{delivered_from, is_here}
 use Rattle.tn_tile.specs.Step.{steps_of}
 use Rattle.tn_tile.proofs.Steps.{taken}
-use Rattle.tn_rows.specs.Events.{Met, after, carried, crossing_of, happened, happened_at, link_row, meets, meets_at, met_with, router_row, tile_row, with_both, with_part}
+use Rattle.tn_rows.specs.Events.{Met, after, carried, crossing_of, deed_of, happened, happened_at, link_row, meets, meets_at, met_with, router_did, tile_did, with_both, with_part}
 use Rattle.tn_rows.specs.Places.{Places, Nowhere, One, Two, leads_from, leads_to, link_way, places, two_if, way_between, way_of_kind}
 use Rattle.tn_stamp.specs.declared.entry.Crossing.{Crossing}
 use Rattle.tn_stamp.specs.declared.entry.Crossing.TheVariants as crossing
@@ -75,33 +77,24 @@ reached_join got dropped u v w xs ys x y = record {
 
 -- ---- a turn
 
-pub acted_tile : (k : ℕ) (t : Thread) (o : Op) (v : TileView) → (acted k t o v).tile ≡ v.plan.tile
-acted_tile k t op.None v = refl
-acted_tile k t (op.Send to bytes) v = refl
-acted_tile k t op.Hand v = refl
-acted_tile k t (op.Free slot) v = refl
-acted_tile k t (op.Idle vote) v = refl
-acted_tile k t (op.Kill value) v = refl
-acted_tile k t (op.Trap why) v = refl
-
-pub turn_reached : (n : ℕ) (got : ℕ → List Letter) (dropped : List Letter) (w : WorldView) (p a k : ℕ) (v new : TileView) → Place w p v a k → steps_of k n v ≡ Some new → Reached got dropped w (turn_steps a k n v) (with_tile w p new)
+pub turn_reached : (n : ℕ) (got : ℕ → List Letter) (dropped : List Letter) (w : WorldView) (p a k : ℕ) (v : TileView) (new : TileState) → Place w p v a k → steps_of v.plan k n v.now ≡ Some new → Reached got dropped w (turn_steps a k n v) (with_tile w p (with_now v new))
 unfolding steps_of turn_steps
 turn_reached zero got dropped w p a k v new c is =
-    let same : v ≡ new = ap (λ (o : Option TileView). unwrap_or o new) is in
+    let same : v.now ≡ new = ap (λ (o : Option TileState). unwrap_or o new) is in
     let back : w ≡ with_tile w p v = ap (λ ps. record w { parts = ps }) (sym (ap (λ x. set w.parts p x) (sym c.on.is) ∙ set-get_or w.parts p AbsentV)) in
-    subst (λ x. Reached got dropped w [] (with_tile w p x)) same (subst (λ (x : WorldView). Reached got dropped w [] x) back (reached_none got dropped w c.good))
+    subst (λ x. Reached got dropped w [] (with_tile w p (with_now v x))) same (subst (λ (x : WorldView). Reached got dropped w [] x) back (reached_none got dropped w c.good))
 turn_reached (suc n) got dropped w p a k v new c is =
-    let first = taken (can_step v.plan.shape.fuel k v.now) (steps_of k n (stepped k v)) new is in
-    let mid : WorldView = with_tile w p (stepped k v) in
+    let first = taken (can_step v.plan.shape.fuel k v.now) (steps_of v.plan k n (stepped v.plan.code k v.now)) new is in
+    let mid : WorldView = with_tile w p (after_step k v) in
     let one = step_reached got dropped w p a k v c first.0 in
-    let there : Place mid p (stepped k v) a k = record {
+    let there : Place mid p (after_step k v) a k = record {
       good = one.good;
-      on = on_new w p v (stepped k v) c.on;
-      stands = record { there = c.stands.there; tile = c.stands.tile ∙ sym (acted_tile k (thread_at v.now k) (step_at_place v.plan.code k v.now).op (with_thread k (step_at_place v.plan.code k v.now).thread v)); place = c.stands.place };
+      on = on_new w p v (after_step k v) c.on;
+      stands = record { there = c.stands.there; tile = c.stands.tile; place = c.stands.place };
     } in
-    let rest = turn_reached n one.now one.gone mid p a k (stepped k v) new there first.1 in
-    reached_join got dropped w mid (with_tile w p new) (thread_step a k v) (turn_steps a k n (stepped k v)) one
-    (subst (λ (x : WorldView). Reached one.now one.gone mid (turn_steps a k n (stepped k v)) x) (twice w p (stepped k v) new) rest)
+    let rest = turn_reached n one.now one.gone mid p a k (after_step k v) new there first.1 in
+    reached_join got dropped w mid (with_tile w p (with_now v new)) (thread_step a k v) (turn_steps a k n (after_step k v)) one
+    (subst (λ (x : WorldView). Reached one.now one.gone mid (turn_steps a k n (after_step k v)) x) (twice w p (after_step k v) (with_now v new)) rest)
 
 -- ---- an event on a tile
 
@@ -110,7 +103,7 @@ first_of_four true b c d e = refl
 first_of_four false b c d e = cc e
 
 -- the thread of an event on the tile of a part is at its place there
-here_is : (w : WorldView) (p a : ℕ) (v : TileView) → Good w → On w p v → is_here a v ≡ true → Place w p v a (place_in_tile v.plan.shape a)
+here_is : (w : WorldView) (p a : ℕ) (v : TileView) → Good w → On w p v → is_here v.plan a ≡ true → Place w p v a (place_in_tile v.plan.shape a)
 here_is w p a v good on here =
     let t = tile_on w p v good on in
     let parts = and_parts _ _ here in
@@ -120,12 +113,12 @@ here_is w p a v good on here =
       stands = record { there = subst (λ n. IsTrue (has_thread n a)) t.shape parts.0; tile = eqb-true _ _ parts.1; place = ap (λ n. place_in_tile n a) (sym t.shape) };
     }
 
-row_reached : (got : ℕ → List Letter) (dropped : List Letter) (e : Event) (w : WorldView) (p : ℕ) (v new : TileView) → Good w → On w p v → tile_row e crossing.None v ≡ Some new → Reached got dropped w (tile_steps (reach_of w) e v) (with_tile w p new)
+row_reached : (got : ℕ → List Letter) (dropped : List Letter) (e : Event) (w : WorldView) (p : ℕ) (v : TileView) (new : TileState) → Good w → On w p v → tile_did v.plan v.now (deed_of v.plan.shape e crossing.None) ≡ Some new → Reached got dropped w (tile_steps (reach_of w) e v) (with_tile w p (with_now v new))
 row_reached got dropped (event.Turn t n) w p v new good on row =
-    let yes = taken _ (steps_of (place_in_tile v.plan.shape t.0) n v) new row in
-    turn_reached n got dropped w p t.0 (place_in_tile v.plan.shape t.0) v new (here_is w p t.0 v good on (first_of_four (is_here t.0 v) _ _ _ yes.0)) yes.1
+    let yes = taken _ (steps_of v.plan (place_in_tile v.plan.shape t.0) n v.now) new row in
+    turn_reached n got dropped w p t.0 (place_in_tile v.plan.shape t.0) v new (here_is w p t.0 v good on (first_of_four (is_here v.plan t.0) _ _ _ yes.0)) yes.1
 row_reached got dropped (event.Deliver t) w p v new good on row =
-    let yes = taken _ (delivered_from (place_in_tile v.plan.shape t.0) (pending_at v.now (place_in_tile v.plan.shape t.0)) v) new row in
+    let yes = taken _ (delivered_from v.plan (place_in_tile v.plan.shape t.0) (pending_at v.now (place_in_tile v.plan.shape t.0)) v.now) new row in
     delivery_reached got dropped w p t.0 (place_in_tile v.plan.shape t.0) v new (here_is w p t.0 v good on (and_parts _ _ yes.0).0) yes.1
 row_reached got dropped (event.Depart x y) w p v new good on row = cc row
 row_reached got dropped (event.Arrive x y) w p v new good on row = cc row
@@ -157,7 +150,7 @@ no_row (event.Go p) x = refl
 
 -- ---- an event on one part of the machine
 
-by_row : (got : ℕ → List Letter) (dropped : List Letter) (e : Event) (w new : WorldView) (p : ℕ) (v : TileView) (r : Option TileView) → Good w → On w p v → tile_row e crossing.None v ≡ r → option_map (with_part w p) (option_map TileV r) ≡ Some new → Reached got dropped w (tile_steps (reach_of w) e v) new
+by_row : (got : ℕ → List Letter) (dropped : List Letter) (e : Event) (w new : WorldView) (p : ℕ) (v : TileView) (r : Option TileState) → Good w → On w p v → tile_did v.plan v.now (deed_of v.plan.shape e crossing.None) ≡ r → option_map (with_part w p) (option_map TileV (now_by v r)) ≡ Some new → Reached got dropped w (tile_steps (reach_of w) e v) new
 by_row got dropped e w new p v None good on row is = cc is
 by_row got dropped e w new p v (Some x) good on row is =
     subst (λ (y : WorldView). Reached got dropped w (tile_steps (reach_of w) e v) y) (ap (λ (o : Option WorldView). unwrap_or o new) is) (row_reached got dropped e w p v x good on row)
@@ -167,12 +160,12 @@ not_some w new p None e is = cc is
 not_some w new p (Some x) e is = cc e
 
 -- a router by itself only routes
-route_only : (got : ℕ → List Letter) (dropped : List Letter) (e : Event) (w : WorldView) (p : ℕ) (v new : RouterView) → Good w → OnPart w p (RouterV v) → router_row e crossing.None v ≡ Some new → Reached got dropped w [] (with_part w p (RouterV new))
+route_only : (got : ℕ → List Letter) (dropped : List Letter) (e : Event) (w : WorldView) (p : ℕ) (v : RouterView) (new : RouterState) → Good w → OnPart w p (RouterV v) → router_did v.plan v.now (deed_of v.plan.shape e crossing.None) ≡ Some new → Reached got dropped w [] (with_part w p (RouterV (router_with_now v new)))
 route_only got dropped (event.Route x) w p v new good on row = route_reached got dropped w p v new good on row
-route_only got dropped (event.Turn t n) w p v new good on row = cc row
-route_only got dropped (event.Deliver t) w p v new good on row = cc row
 route_only got dropped (event.Depart x y) w p v new good on row = cc row
 route_only got dropped (event.Arrive x y) w p v new good on row = cc row
+route_only got dropped (event.Turn t n) w p v new good on row = cc row
+route_only got dropped (event.Deliver t) w p v new good on row = cc row
 route_only got dropped event.HostPut w p v new good on row = cc row
 route_only got dropped event.HostTake w p v new good on row = cc row
 route_only got dropped (event.Report x) w p v new good on row = cc row
@@ -182,7 +175,7 @@ route_only got dropped event.Announce w p v new good on row = cc row
 route_only got dropped (event.Release x) w p v new good on row = cc row
 route_only got dropped (event.Go x) w p v new good on row = cc row
 
-by_route : (got : ℕ → List Letter) (dropped : List Letter) (e : Event) (w new : WorldView) (p : ℕ) (v : RouterView) (r : Option RouterView) → Good w → OnPart w p (RouterV v) → router_row e crossing.None v ≡ r → option_map (with_part w p) (option_map RouterV r) ≡ Some new → Reached got dropped w [] new
+by_route : (got : ℕ → List Letter) (dropped : List Letter) (e : Event) (w new : WorldView) (p : ℕ) (v : RouterView) (r : Option RouterState) → Good w → OnPart w p (RouterV v) → router_did v.plan v.now (deed_of v.plan.shape e crossing.None) ≡ r → option_map (with_part w p) (option_map RouterV (router_now_by v r)) ≡ Some new → Reached got dropped w [] new
 by_route got dropped e w new p v None good on row is = cc is
 by_route got dropped e w new p v (Some x) good on row is =
     subst (λ (y : WorldView). Reached got dropped w [] y) (ap (λ (o : Option WorldView). unwrap_or o new) is) (route_only got dropped e w p v x good on row)
@@ -198,8 +191,8 @@ by_part : (got : ℕ → List Letter) (dropped : List Letter) (e : Event) (w new
 by_part got dropped e w new p None good here is = cc is
 by_part got dropped e w new p (Some AbsentV) good here is = cc is
 by_part got dropped e w new p (Some (LinkV x)) good here is = absurd (not_some w new p (link_row e crossing.None x) (no_row e x) is)
-by_part got dropped e w new p (Some (RouterV v)) good here is = by_route got dropped e w new p v (router_row e crossing.None v) good (on_read w p (RouterV v) good here) refl is
-by_part got dropped e w new p (Some (TileV v)) good here is = by_row got dropped e w new p v (tile_row e crossing.None v) good (on_read w p (TileV v) good here) refl is
+by_part got dropped e w new p (Some (RouterV v)) good here is = by_route got dropped e w new p v (router_did v.plan v.now (deed_of v.plan.shape e crossing.None)) good (on_read w p (RouterV v) good here) refl is
+by_part got dropped e w new p (Some (TileV v)) good here is = by_row got dropped e w new p v (tile_did v.plan v.now (deed_of v.plan.shape e crossing.None)) good (on_read w p (TileV v) good here) refl is
 
 -- ---- an event on two parts
 
