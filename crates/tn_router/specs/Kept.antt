@@ -38,7 +38,7 @@ abbrev pub is_nil : List RouteRec → Bool
 is_nil [] = true
 is_nil (r ∷ rs) = false
 
--- a packet in process stands at a record of its key, or no record comes, and both numbers are 0
+-- the numbers of a packet in process name a record of its key; if no record comes, both numbers are 0
 abbrev pub is_placed : Table → Work → Bool
 is_placed table w =
     is_record_to table w.packet.dest w.beat w.at || (is_nil (rest_of table w) && w.beat == 0 && w.at == 0)

@@ -15,7 +15,7 @@ use Rattle.tn_router.specs.declared.moves.Sent.{Sent}
 use Rattle.tn_router.specs.declared.work.Work.{Work}
 use Rattle.tn_router.specs.Rest.{rest_of}
 
--- the copies of a message for the receivers that it names; those of its key, where it has one, are given
+-- the copies of a message for the receivers that it names; if it has a key, the copies of the key are given
 abbrev pub copies_to : (ℕ → List Copy) → List ℕ → Dest → List Copy
 copies_to by_key bytes (dest.Thread t) = copy_to t.0 bytes ∷ []
 copies_to by_key bytes dest.Host = copy_to 0x40000000 bytes ∷ []

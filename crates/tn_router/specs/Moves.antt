@@ -51,13 +51,13 @@ behind table key w (Rr dir onward) = next_work table key w
 behind table key w (Mrm tile local mask) = next_work table key w
 behind table key w (Ind onward) = entered table w.packet onward
 
--- one record is done; where none comes, the packet is taken away
+-- one record is done; if no record comes, the packet is taken away
 abbrev pub record_move : ShapeNumbers → Board → Table → Port → ℕ → Work → Option RouteRec → Move
 record_move n b table side key w None = record { side = side; sent = None; work = None; bad = None }
 record_move n b table side key w (Some r) =
     record { side = side; sent = copy_by n b w.packet r; work = behind table key w r; bad = None }
 
--- where the key is bad, nothing moves
+-- if the key is bad, nothing moves
 abbrev pub key_move : ShapeNumbers → Board → Table → Port → ℕ → Work → Move
 key_move n b table side key w =
     if is_bad_key (length table) key then record { side = side; sent = None; work = Some w; bad = Some key }

@@ -12,7 +12,7 @@ use Rattle.tn_router.specs.declared.work.Work.{Work}
 abbrev pub beats_from : Table → ℕ → ℕ → Table
 beats_from table key i = drop i (take (key_first key + key_count key) table)
 
--- the records of its key from the next one on; a bad key has none, and neither has a packet that stands before its key
+-- the records of its key from the next one on; a bad key has no records, and a packet whose beat is before its key's beats has none
 abbrev pub rest_by : Table → Work → ℕ → List RouteRec
 rest_by table w key =
     if is_bad_key (length table) key || nat_lt w.beat (key_first key) then []
@@ -32,7 +32,7 @@ rest_of table w = rest_to table w w.packet.dest
 abbrev pub next_record : Table → Work → Option RouteRec
 next_record table w = slice_get (rest_of table w) 0
 
--- the number of the first beat that has a record, where the first beat has the number i
+-- the number of the first beat that has a record; the number of the first beat of the list is i
 abbrev pub first_full : ℕ → Table → Option ℕ
 first_full i [] = None
 first_full i ([] ∷ beats) = first_full (i + 1) beats
@@ -61,7 +61,7 @@ started_to table p dest.Host = at_beat p 0
 started_to table p (dest.Mask tile mask) = at_beat p 0
 started_to table p (dest.Key key) = started_by table p key
 
--- a packet that comes into process, at the first record of its key; both numbers are 0 where no record comes
+-- a packet that comes into process, at the first record of its key; if no record comes, both numbers are 0
 abbrev pub started : Table → Packet → Work
 started table p = started_to table p p.dest
 
@@ -71,7 +71,7 @@ next_work table key w =
     if nat_lt (w.at + 1) (length (slice_index_or table w.beat [])) then Some (record w { at = w.at + 1 })
     else from_beat table key (w.beat + 1) w.packet
 
--- a packet that goes on with another key, if a record of it comes; where that key is bad it stays, and the next Route finds it
+-- a packet that goes on with another key, if a record of that key comes; if the key is bad, the packet stays, and the next Route finds the bad key
 abbrev pub entered : Table → Packet → ℕ → Option Work
 entered table p key =
     if is_bad_key (length table) key then Some (at_beat (record p { dest = dest.Key key }) 0)

@@ -218,7 +218,7 @@ fn key_move(shape: &Shape, board: Board, beats: &[Beat], side: Port, key: Key, w
     }
 }
 
-/// What one Route makes of a packet in process at a side, if no packet waits where it sends.
+/// What one Route makes of a packet in process of a side, if the way out that it needs is free.
 pub(crate) fn move_of(shape: &Shape, board: Board, beats: &[Beat], side: Port, work: Work) -> Move
     requires board { HasBoard shape.now board }
     requires placed { IsTrue (is_placed beats.now work) }

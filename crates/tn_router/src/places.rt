@@ -1,4 +1,4 @@
-//! Where a packet in process stands in its key's beats.
+//! The place of the next record of a packet in process.
 
 ghost use Rattle.std.specs.Prelude.{◌≡◌, ◌≤◌, ◌+◌, false, IsSome, IsTrue, drop, length, slice_get, take};
 ghost use Rattle.tn_base.specs.declared.message.Dest.TheVariants as dest;

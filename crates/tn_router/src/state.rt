@@ -1,6 +1,6 @@
 //! What events change of a router.
 
-ghost use Rattle.std.specs.Prelude.{◌≡◌, ◌↔◌, IsSome, IsTrue, MatchOption, None, Some, is_none, is_some, option_map};
+ghost use Rattle.std.specs.Prelude.{◌≡◌, ◌↔◌, IsSome, IsTrue, Some, is_some, option_and_then, option_map};
 ghost use Rattle.tn_base.specs.Does.{Does};
 ghost use Rattle.tn_node.specs.PortRows.{at};
 ghost use Rattle.tn_router.specs.Kept.{IsFit, fresh_state};
@@ -61,10 +61,11 @@ impl RouterState {
         }
     }
 
-    /// The first side whose packet can move.
+    /// The first side that can move.
     pub(crate) fn first_side(&self, plan: &Plan) -> Option<Port>
         requires { IsFit plan.now self.now }
-        ensures { MatchOption result (first_move plan.now self.now ≡ None) (λ side. IsSome (move_at plan.now side self.now) × (first_move plan.now self.now ≡ move_at plan.now side self.now)) }
+        ensures first { first_move plan.now self.now ≡ option_and_then (λ side. move_at plan.now side self.now) result }
+        ensures some { is_some result ≡ is_some (first_move plan.now self.now) }
     {
         for side in &SIDES {
             if self.can_move(plan, *side) {
@@ -74,7 +75,7 @@ impl RouterState {
         None
     }
 
-    /// Whether the packet of a side can move: what it sends next finds no packet that waits for that way out.
+    /// Whether a side can move: it has a packet, and the way out of the packet's next move is free.
     fn can_move(&self, plan: &Plan, side: Port) -> bool
         requires { IsFit plan.now self.now }
         ensures { result ≡ is_some (move_at plan.now side self.now) }
@@ -165,7 +166,7 @@ impl RouterState {
     }
 }
 
-/// Whether no packet waits for a way out, or there is no such way.
+/// Whether no packet waits for the way out, or no way is asked for.
 fn is_free(out: &Ports<Packet>, way: Option<Port>) -> bool
     ensures { result ≡ is_free way out.now }
 {

@@ -5,10 +5,10 @@ ghost use Rattle.std.specs.Prelude.{◌≡◌, ◌↔◌, IsTrue};
 use tn_base::message::Packet;
 use tn_node::same::Same;
 
-/// A packet in process. A packet with a key stands at the next record of its key.
+/// A packet in process, and the place of the next record of its key.
 #[derive(Drop)]
 pub struct Work {
-    /// The packet bears the key of the last IND that it passed.
+    /// The packet. It bears the key of the last IND that it passed.
     pub packet: Packet,
     /// The number in the table of the beat that holds the next record; 0 if no record comes.
     pub beat: u32,
