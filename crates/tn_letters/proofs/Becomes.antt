@@ -4,8 +4,7 @@ use Rattle.std.proofs.lemmas.List.Sums.{sum_by-append}
 use Rattle.tn_base.specs.declared.message.Letter.{Letter}
 use Rattle.tn_base.specs.declared.message.Packet.{Packet}
 use Rattle.tn_base.specs.declared.shape.ShapeNumbers.{ShapeNumbers}
-use Rattle.tn_base.specs.Address.{has_thread, place_in_tile, tile_place}
-use Rattle.tn_base.specs.Parts.{tile_part}
+use Rattle.tn_base.specs.Address.{has_thread, place_in_tile}
 use Rattle.tn_link.specs.LinkView.{LinkView}
 use Rattle.tn_slots.specs.WellKept.{WellKept}
 use Rattle.tn_tile.specs.Kept.{IsFit}

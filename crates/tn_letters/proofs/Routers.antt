@@ -1,7 +1,6 @@
 -- Events of routers: they move letters, and are no steps of the bag machine.
-use Rattle.std.proofs.Common.{ℕ, ◌+◌, ◌≡◌, ◌&&◌, Bool, true, false, cond, List, [], refl, sym, ◌∙◌, ap, subst, arith, Option, Some, None, MatchOption, is_none, is_some, option_map, unwrap_or, IsTrue, pos, ◌+ℤ◌}
+use Rattle.std.proofs.Common.{ℕ, ◌+◌, ◌≡◌, Bool, true, false, cond, List, [], refl, sym, ◌∙◌, ap, subst, arith, Option, Some, None, MatchOption, is_none, is_some, option_map, unwrap_or, IsTrue}
 use Rattle.std.specs.Prelude.{◌||◌, not}
-use Rattle.std.proofs.lemmas.Bool.{and_parts}
 use Rattle.tn_base.specs.declared.event.Event.TheVariants as event
 use Rattle.tn_base.specs.declared.ids.Board.{Board}
 use Rattle.tn_base.specs.declared.ids.PartId.{PartId}

@@ -19,7 +19,7 @@ use Rattle.tn_thread.specs.declared.thread.Thread.{Thread}
 use Rattle.tn_thread.specs.Step.{Stepped}
 use Rattle.tn_tile.specs.Kept.{IsFit}
 use Rattle.tn_tile.specs.Receivers.{is_dead}
-use Rattle.tn_tile.specs.Step.{can_step, pending_at, step_at_place, stepped, thread_at, with_thread}
+use Rattle.tn_tile.specs.Step.{can_step, pending_at, step_at_place, thread_at, with_thread}
 use Rattle.tn_tile.specs.declared.state.TileState.{TileState}
 use Rattle.tn_tile.specs.TileView.{TileView, with_now}
 use Rattle.tn_rows.specs.WorldView.{WorldView}

@@ -1,10 +1,7 @@
 -- Events and whole runs.
 use Rattle.std.proofs.lemmas.Bool.{and_parts, eqb-true}
 use Rattle.tn_base.specs.declared.message.Letter.{Letter}
-use Rattle.tn_base.specs.declared.op.Op.{Op}
-use Rattle.tn_base.specs.declared.op.Op.TheVariants as op
 use Rattle.tn_base.specs.Address.{has_thread, place_in_tile}
-use Rattle.tn_thread.specs.declared.thread.Thread.{Thread}
 use Rattle.tn_tile.specs.Step.{can_step, pending_at, stepped}
 use Rattle.tn_tile.specs.declared.state.TileState.{TileState}
 use Rattle.tn_tile.specs.TileView.{TileView, now_by, with_now}
