@@ -12,9 +12,9 @@ use Rattle.tn_base.specs.declared.message.Packet.{Packet}
 use Rattle.tn_base.specs.Message.{has_packet}
 use Rattle.tn_base.specs.Parts.{kind_of}
 use Rattle.tn_stamp.specs.declared.entry.Crossing.TheVariants as crossing
-use Rattle.tn_tile.specs.Rows.{accept_row}
-use Rattle.tn_tile.specs.TileView.{TileView}
-use Rattle.tn_tile.proofs.Packets.{accepts}
+use Rattle.tn_tile.specs.declared.state.TileState.{TileState}
+use Rattle.tn_tile.specs.Rows.{accept_row, accepted, came, passed}
+use Rattle.tn_tile.specs.TileView.{TilePlan, TileView, now_by, with_now}
 use Rattle.tn_rows.specs.Events.{after, carried, happened, happened_at, met_by, met_with, meets, meets_at, with_both}
 use Rattle.tn_rows.specs.PartView.{PartView, TileV, RouterV, LinkV, AbsentV, tile_of}
 use Rattle.tn_rows.specs.Places.{leads_to, two_if}
@@ -41,12 +41,23 @@ read_tile (Some (RouterV x)) v e = cc e
 read_tile (Some (LinkV x)) v e = cc e
 read_tile (Some AbsentV) v e = cc e
 
-arrival_fits : (l p : PartId) (v : TileView) (high : PartView) (k : Packet) → carried high ≡ Some k → is_some (meets (event.Arrive l p) (TileV v) high) ≡ true → has_packet v.shape k ≡ true
+some_taken : {X : Type 0} (b : Bool) (o : Option X) → is_some (cond b o None) ≡ true → (b ≡ true) × (is_some o ≡ true)
+some_taken true o e = (refl, e)
+some_taken false o e = cc e
+
+-- a packet that a tile takes is one of the machine
+taken_fits : (plan : TilePlan) (k : Packet) (s : TileState) → is_some (accept_row plan k s) ≡ true → has_packet plan.shape k ≡ true
+taken_fits plan k s e =
+    let came_in : is_some (option_map came (accepted plan k s)) ≡ true = (some_taken _ (option_map came (accepted plan k s)) e).1 in
+    (some_taken (has_packet plan.shape k) (passed plan k s) (some_of came (accepted plan k s) came_in)).0
+
+arrival_fits : (l p : PartId) (v : TileView) (high : PartView) (k : Packet) → carried high ≡ Some k → is_some (meets (event.Arrive l p) (TileV v) high) ≡ true → has_packet v.plan.shape k ≡ true
 arrival_fits l p v high k e some =
     let both : is_some (met_by (after (event.Arrive l p) (crossing.Packet k) (TileV v)) (after (event.Arrive l p) (crossing.Packet k) high)) ≡ true = sym (ap (λ (o : Option Packet). is_some (met_with (event.Arrive l p) (TileV v) high (option_map crossing.Packet o))) e) ∙ some in
-    (accepts k v (some_of TileV (accept_row k v) (met_low (option_map TileV (accept_row k v)) (after (event.Arrive l p) (crossing.Packet k) high) both))).fits
+    let low : is_some (option_map TileV (now_by v (accept_row v.plan k v.now))) ≡ true = met_low (option_map TileV (now_by v (accept_row v.plan k v.now))) (after (event.Arrive l p) (crossing.Packet k) high) both in
+    taken_fits v.plan k v.now (some_of (with_now v) (accept_row v.plan k v.now) (some_of TileV (now_by v (accept_row v.plan k v.now)) low))
 
-high_there : (l p : PartId) (v : TileView) (high : Option PartView) (k : Packet) → option_and_then carried high ≡ Some k → is_some (meets_at (event.Arrive l p) (Some (TileV v)) high) ≡ true → has_packet v.shape k ≡ true
+high_there : (l p : PartId) (v : TileView) (high : Option PartView) (k : Packet) → option_and_then carried high ≡ Some k → is_some (meets_at (event.Arrive l p) (Some (TileV v)) high) ≡ true → has_packet v.plan.shape k ≡ true
 high_there l p v None k e some = cc e
 high_there l p v (Some high) k e some = arrival_fits l p v high k e some
 
@@ -68,7 +79,7 @@ arrives w l p v some at =
     some_of (with_both w p.0 l.0) (meets_at (event.Arrive l p) (slice_get w.parts p.0) (slice_get w.parts l.0)) (sym (ap (λ b. is_some (happened_at (event.Arrive l p) w (two_if b p.0 l.0))) leads) ∙ some) in
     record { leads = leads; low = low; meets = sym (ap (λ o. is_some (meets_at (event.Arrive l p) o (slice_get w.parts l.0))) low) ∙ both }
 
-pub front_fits : (w : WorldView) (l p : PartId) (v : TileView) (r : Option (Bor Packet)) → Arrives w l p v → option_copied r ≡ option_and_then carried (slice_get w.parts l.0) → MatchOption r (Unit {0}) (λ k. has_packet v.shape k.now ≡ true)
+pub front_fits : (w : WorldView) (l p : PartId) (v : TileView) (r : Option (Bor Packet)) → Arrives w l p v → option_copied r ≡ option_and_then carried (slice_get w.parts l.0) → MatchOption r (Unit {0}) (λ k. has_packet v.plan.shape k.now ≡ true)
 front_fits w l p v None a e = tt
 front_fits w l p v (Some k) a e = high_there l p v (slice_get w.parts l.0) k.now (sym e) a.meets
 

@@ -63,7 +63,7 @@ table_read w b h =
     let beats : ℕ → Table = λ j. beats_on (get_or w.parts (router_part w.shape j) AbsentV) in
     mapped_at beats 0 (board_count w.shape) (board_place w.shape b) [] h ∙ ap beats (omega arith)
 
-pub router_read : (part : PartView) (o : Option (Bor RouterView)) → option_copied o ≡ router_of part → MatchOption o (beats_on part ≡ []) (λ r. r.now.beats ≡ beats_on part)
+pub router_read : (part : PartView) (o : Option (Bor RouterView)) → option_copied o ≡ router_of part → MatchOption o (beats_on part ≡ []) (λ r. r.now.plan.beats ≡ beats_on part)
 router_read (TileV v) None e = refl
 router_read (TileV v) (Some r) e = cc e
 router_read (RouterV v) None e = cc e
@@ -73,7 +73,7 @@ router_read (LinkV x) (Some r) e = cc e
 router_read AbsentV None e = refl
 router_read AbsentV (Some r) e = cc e
 
-parts_read : (parts : List PartView) (i : ℕ) (o : Option (Bor RouterView)) → option_copied o ≡ option_and_then router_of (slice_get parts i) → MatchOption o (beats_on (get_or parts i AbsentV) ≡ []) (λ r. r.now.beats ≡ beats_on (get_or parts i AbsentV))
+parts_read : (parts : List PartView) (i : ℕ) (o : Option (Bor RouterView)) → option_copied o ≡ option_and_then router_of (slice_get parts i) → MatchOption o (beats_on (get_or parts i AbsentV) ≡ []) (λ r. r.now.plan.beats ≡ beats_on (get_or parts i AbsentV))
 parts_read [] i None e = refl
 parts_read [] i (Some r) e = cc e
 parts_read (x ∷ xs) zero o e = router_read x o e
@@ -90,14 +90,14 @@ past_read w b numbers shape count s e c h =
     table_past w b (omega arith)
 
 pub found_read : (w : WorldView) (b : Board) (numbers shape : ShapeNumbers) (seen count : ℕ) (o : Option (Bor RouterView)) → shape ≡ w.shape → numbers ≡ shape → seen ≡ visited shape → count ≡ board_count shape → b.y * numbers.boards_x + b.x < count →
-    option_copied o ≡ option_and_then router_of (slice_get w.parts (seen - count + (b.y * numbers.boards_x + b.x))) → MatchOption o (table_of w.shape (tables_of w) b ≡ []) (λ r. r.now.beats ≡ table_of w.shape (tables_of w) b)
+    option_copied o ≡ option_and_then router_of (slice_get w.parts (seen - count + (b.y * numbers.boards_x + b.x))) → MatchOption o (table_of w.shape (tables_of w) b ≡ []) (λ r. r.now.plan.beats ≡ table_of w.shape (tables_of w) b)
 found_read w b numbers shape seen count o s e v c h is =
     let place = same_place w.shape b numbers shape s e in
     let boards : count ≡ board_count w.shape = c ∙ ap board_count s in
     let all : seen ≡ visited w.shape = v ∙ ap visited s in
     let part : seen - count + (b.y * numbers.boards_x + b.x) ≡ router_part w.shape (board_place w.shape b) = omega arith in
     let read = parts_read w.parts (router_part w.shape (board_place w.shape b)) o (is ∙ ap (λ i. option_and_then router_of (slice_get w.parts i)) part) in
-    subst (λ (t : Table). MatchOption o (t ≡ []) (λ r. r.now.beats ≡ t)) (sym (table_read w b (omega arith))) read
+    subst (λ (t : Table). MatchOption o (t ≡ []) (λ r. r.now.plan.beats ≡ t)) (sym (table_read w b (omega arith))) read
 
 -- beats one after another
 pub beat_read : (t : Table) (i : ℕ) (o : Option (Bor (List RouteRec))) → option_copied o ≡ slice_get t i → MatchOption o (get_or t i [] ≡ []) (λ r. r.now ≡ get_or t i [])
@@ -155,7 +155,7 @@ pub none_read : (t : Table) (i : ℕ) (o : Option (Bor (List RouteRec))) → opt
 none_read t i o e = sym (ap is_none e) ∙ copied_none o
 
 -- the table of a board, where its router was read or not
-pub no_table : (t : Table) (key : ℕ) (o : Option (Bor RouterView)) → MatchOption o (t ≡ []) (λ r. r.now.beats ≡ t) → o ≡ None → records_at t key ≡ []
+pub no_table : (t : Table) (key : ℕ) (o : Option (Bor RouterView)) → MatchOption o (t ≡ []) (λ r. r.now.plan.beats ≡ t) → o ≡ None → records_at t key ≡ []
 no_table t key None m e = subst (λ x. records_at x key ≡ []) (sym m) (by (key_count key) refl)
   where
     by : (k : ℕ) → key_count key ≡ k → records_at [] key ≡ []
@@ -163,9 +163,9 @@ no_table t key None m e = subst (λ x. records_at x key ≡ []) (sym m) (by (key
     by (suc k) e = bad_past [] key (omega arith)
 no_table t key (Some r) m e = cc e
 
-pub some_table : (t : Table) (o : Option (Bor RouterView)) (r : Bor RouterView) → MatchOption o (t ≡ []) (λ r. r.now.beats ≡ t) → o ≡ Some r → r.now.beats ≡ t
+pub some_table : (t : Table) (o : Option (Bor RouterView)) (r : Bor RouterView) → MatchOption o (t ≡ []) (λ r. r.now.plan.beats ≡ t) → o ≡ Some r → r.now.plan.beats ≡ t
 some_table t None r m e = cc e
-some_table t (Some s) r m e = subst (λ (x : Option (Bor RouterView)). MatchOption x (t ≡ []) (λ r. r.now.beats ≡ t)) e m
+some_table t (Some s) r m e = subst (λ (x : Option (Bor RouterView)). MatchOption x (t ≡ []) (λ r. r.now.plan.beats ≡ t)) e m
 
 -- a key as it was read
 pub past_key : (t beats : Table) (key first count : ℕ) (o : Option (Bor (List RouteRec))) → beats ≡ t → first ≡ key_first key → count ≡ key_count key → (count ≡ 0 → ⊥) → option_copied o ≡ slice_get beats (first + count - 1) → is_none o ≡ true → records_at t key ≡ []

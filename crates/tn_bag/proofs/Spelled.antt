@@ -9,7 +9,7 @@ use Rattle.tn_base.specs.declared.message.Letter.{Letter}
 use Rattle.tn_base.specs.declared.op.Op.{Op}
 use Rattle.tn_base.specs.declared.op.Op.TheVariants as op
 use Rattle.tn_base.specs.declared.shape.ShapeNumbers.{ShapeNumbers}
-use Rattle.tn_base.specs.Address.{has_thread, in_tile, place_in_tile, tile_of}
+use Rattle.tn_base.specs.Address.{in_tile, place_in_tile, tile_threads}
 use Rattle.tn_base.proofs.TilePlaces.{place_below, place_named}
 use Rattle.tn_tile.specs.Kept.{WellShaped}
 use Rattle.tn_thread.specs.declared.state.ThreadState.TheVariants as state
@@ -25,20 +25,19 @@ use Rattle.tn_slots.proofs.Owed.{first_is}
 use Rattle.tn_thread.specs.declared.thread.Thread.{Thread}
 use Rattle.tn_thread.specs.Step.{runnable}
 use Rattle.tn_tile.specs.Rows.{can_count, is_here, sender_of, turn_row}
-use Rattle.tn_tile.specs.Step.{can_step, no_thread, sight_at, step_at_place, stepped, steps_of, thread_at, with_thread}
+use Rattle.tn_tile.specs.Step.{can_step, no_thread, sight_at, step_at_place, stepped, steps_of, thread_at}
 use Rattle.tn_tile.specs.Turns.{StepsUpTo}
-use Rattle.tn_tile.specs.TileView.{TileView}
-use Rattle.tn_tile.proofs.Steps.{stepped_shape}
+use Rattle.tn_tile.specs.declared.state.TileState.{TileState}
+use Rattle.tn_tile.specs.TileView.{TilePlan, TileView, with_now}
 use Rattle.tn_letters.specs.declared.place.Place.{Place}
 use Rattle.tn_letters.specs.declared.steps.BagStep.{BagStep}
 use Rattle.tn_letters.specs.declared.steps.BagStep.TheVariants as bag
 use Rattle.tn_letters.specs.Letters.{letter}
 use Rattle.tn_keys.specs.Reach.{Reach}
 use Rattle.tn_letters.specs.Standing.{crossing_at}
-use Rattle.tn_letters.specs.Steps.{thread_step, turn_steps}
+use Rattle.tn_letters.specs.Steps.{after_step, thread_step, turn_steps}
 use Rattle.tn_letters.specs.Tiles.{letter_in, sender_at}
 use Rattle.tn_bag.proofs.Made.{message_some}
-use Rattle.tn_letters.proofs.Walks.{acted_tile}
 use Rattle.tn_letters.proofs.Simulate.{next, op_fits}
 
 -- the letters at each place of a link
@@ -130,10 +129,10 @@ one_dropped gives q rest s l before now e is same =
     ∙ ap (λ q. before ++ map bag.Discard (map gives q)) (sym e))
 
 -- the place of a thread of the tile
-pub place_in : (v : TileView) (a : ℕ) → WellShaped v → is_here a v ≡ true → place_in_tile v.shape a < length v.pool.queues
+pub place_in : (v : TileView) (a : ℕ) → WellShaped v → is_here v.plan a ≡ true → place_in_tile v.plan.shape a < length v.now.pool.queues
 place_in v a shaped here =
-    let h = place_below v.shape a (and_parts _ _ here).0 in
-    let q = shaped.queues in
+    let h = place_below v.plan.shape a (and_parts _ _ here).0 in
+    let q = shaped.fits.pool.queues in
     omega arith
 
 -- the letter of a slot, as it was read
@@ -141,83 +140,86 @@ message_is : (free : Bool) (bytes read : List ℕ) → cond free None (Some byte
 message_is true bytes read e = cc e
 message_is false bytes read e = sym (ap (λ (o : Option (List ℕ)). unwrap_or o read) e)
 
-pub letter_read : (v : TileView) (a s : ℕ) (from : ℕ × ℕ) (bytes : List ℕ) → is_here a v ≡ true → sender_of s v ≡ Some from → message_at v.pool s ≡ Some bytes → letter from.0 from.1 a bytes ≡ letter_in v (place_in_tile v.shape a) s
+pub letter_read : (v : TileView) (a s : ℕ) (from : ℕ × ℕ) (bytes : List ℕ) → is_here v.plan a ≡ true → sender_of s v.now ≡ Some from → message_at v.now.pool s ≡ Some bytes → letter from.0 from.1 a bytes ≡ letter_in v (place_in_tile v.plan.shape a) s
 letter_read v a s from bytes here e f =
     let parts = and_parts _ _ here in
-    let at : in_tile v.shape v.tile (place_in_tile v.shape a) ≡ a = ap (λ t. in_tile v.shape t (place_in_tile v.shape a)) (sym (eqb-true _ _ parts.1)) ∙ place_named v.shape a parts.0 in
+    let at : in_tile v.plan.shape v.plan.tile (place_in_tile v.plan.shape a) ≡ a = ap (λ t. in_tile v.plan.shape t (place_in_tile v.plan.shape a)) (sym (eqb-true _ _ parts.1)) ∙ place_named v.plan.shape a parts.0 in
     let sent : (ℕ × ℕ) = ((sender_at v s).origin, (sender_at v s).number) in
-    let who : from ≡ sent = message_some (message_at v.pool s) sent from e in
-    let what : bytes ≡ (slot_at v.pool s).bytes = message_is (is_free (slot_at v.pool s)) (slot_at v.pool s).bytes bytes f in
+    let who : from ≡ sent = message_some (message_at v.now.pool s) sent from e in
+    let what : bytes ≡ (slot_at v.now.pool s).bytes = message_is (is_free (slot_at v.now.pool s)) (slot_at v.now.pool s).bytes bytes f in
     ap (λ (q : ℕ × ℕ). letter q.0 q.1 a bytes) who
-    ∙ (ap (λ b. letter sent.0 sent.1 a b) what ∙ ap (λ b. letter sent.0 sent.1 b (slot_at v.pool s).bytes) (sym at))
+    ∙ (ap (λ b. letter sent.0 sent.1 a b) what ∙ ap (λ b. letter sent.0 sent.1 b (slot_at v.now.pool s).bytes) (sym at))
 
 -- ---- a turn that is made step by step
 
 pub record TurnLeft (a n made : ℕ) (tile now : TileView) : Type 0 where
-  pub here : is_here a now ≡ true
-  pub shape : now.shape ≡ tile.shape
+  pub here : is_here tile.plan a ≡ true
+  pub plan : now.plan ≡ tile.plan
   pub shaped : WellShaped now
-  pub left : is_some (steps_of (place_in_tile tile.shape a) (n - made) now) ≡ true
-  pub counts : made < n → can_count now ≡ true
+  pub left : is_some (steps_of tile.plan (place_in_tile tile.plan.shape a) (n - made) now.now) ≡ true
+  pub counts : made < n → can_count now.now ≡ true
 
-all_four : (a b c d : Bool) (o : Option TileView) → is_some (cond (a && b && c && d) o None) ≡ true → (a ≡ true) × (d ≡ true) × (is_some o ≡ true)
+all_four : (a b c d : Bool) (o : Option TileState) → is_some (cond (a && b && c && d) o None) ≡ true → (a ≡ true) × (d ≡ true) × (is_some o ≡ true)
 all_four true true true true o e = (refl, refl, e)
 all_four true true true false o e = cc e
 all_four true true false d o e = cc e
 all_four true false c d o e = cc e
 all_four false b c d o e = cc e
 
-pub turn_start : (a n : ℕ) (tile now : TileView) → WellShaped tile → is_some (turn_row a n tile) ≡ true → now ≡ tile → TurnLeft a n 0 tile now
+pub turn_start : (a n : ℕ) (tile now : TileView) → WellShaped tile → is_some (turn_row tile.plan a n tile.now) ≡ true → now ≡ tile → TurnLeft a n 0 tile now
 turn_start a n tile now shaped e is =
-    let t = all_four (is_here a tile) _ _ (can_count tile) (steps_of (place_in_tile tile.shape a) n tile) e in
+    let t = all_four (is_here tile.plan a) _ _ (can_count tile.now) (steps_of tile.plan (place_in_tile tile.plan.shape a) n tile.now) e in
     let all : n - 0 ≡ n = omega arith in
-    subst (λ (v : TileView). TurnLeft a n 0 tile v) (sym is) (record { here = t.0; shape = refl; shaped = shaped; left = ap (λ m. is_some (steps_of (place_in_tile tile.shape a) m tile)) all ∙ t.2; counts = λ h. t.1 })
+    subst (λ (v : TileView). TurnLeft a n 0 tile v) (sym is)
+    (record { here = t.0; plan = refl; shaped = shaped; left = ap (λ m. is_some (steps_of tile.plan (place_in_tile tile.plan.shape a) m tile.now)) all ∙ t.2; counts = λ h. t.1 })
 
 some_taken : {X : Type 0} (b : Bool) (o : Option X) → is_some (cond b o None) ≡ true → (b ≡ true) × (is_some o ≡ true)
 some_taken true o e = (refl, e)
 some_taken false o e = cc e
 
 -- one step of what is left
-first_step : (k m : ℕ) (v : TileView) → is_some (steps_of k (suc m) v) ≡ true → (can_step k v ≡ true) × (is_some (steps_of k m (stepped k v)) ≡ true)
+first_step : (plan : TilePlan) (k m : ℕ) (s : TileState) → is_some (steps_of plan k (suc m) s) ≡ true → (can_step plan.shape.fuel k s ≡ true) × (is_some (steps_of plan k m (stepped plan.code k s)) ≡ true)
 unfolding steps_of
-first_step k m v e = some_taken (can_step k v) (steps_of k m (stepped k v)) e
+first_step plan k m s e = some_taken (can_step plan.shape.fuel k s) (steps_of plan k m (stepped plan.code k s)) e
 
 left_now : (n made : ℕ) → made < n → n - made ≡ suc (n - (made + 1))
 left_now n made h = omega arith
 
-steps_left : (a n made : ℕ) (tile now : TileView) → TurnLeft a n made tile now → made < n → (can_step (place_in_tile tile.shape a) now ≡ true) × (is_some (steps_of (place_in_tile tile.shape a) (n - (made + 1)) (stepped (place_in_tile tile.shape a) now)) ≡ true)
+steps_left : (a n made : ℕ) (tile now : TileView) → TurnLeft a n made tile now → made < n →
+    (can_step tile.plan.shape.fuel (place_in_tile tile.plan.shape a) now.now ≡ true) × (is_some (steps_of tile.plan (place_in_tile tile.plan.shape a) (n - (made + 1)) (stepped tile.plan.code (place_in_tile tile.plan.shape a) now.now)) ≡ true)
 steps_left a n made tile now t h =
-    let k : ℕ = place_in_tile tile.shape a in
-    first_step k (n - (made + 1)) now (ap (λ m. is_some (steps_of k m now)) (sym (left_now n made h)) ∙ t.left)
+    let k : ℕ = place_in_tile tile.plan.shape a in
+    first_step tile.plan k (n - (made + 1)) now.now (ap (λ m. is_some (steps_of tile.plan k m now.now)) (sym (left_now n made h)) ∙ t.left)
 
-same_place : (a n made : ℕ) (tile now : TileView) → TurnLeft a n made tile now → place_in_tile now.shape a ≡ place_in_tile tile.shape a
-same_place a n made tile now t = ap (λ n. place_in_tile n a) t.shape
+pub turn_can : (a n made : ℕ) (tile now : TileView) → TurnLeft a n made tile now → made < n → can_step now.plan.shape.fuel (place_in_tile now.plan.shape a) now.now ≡ true
+turn_can a n made tile now t h =
+    subst (λ (p : TilePlan). can_step p.shape.fuel (place_in_tile p.shape a) now.now ≡ true) (sym t.plan) (steps_left a n made tile now t h).0
 
-pub turn_can : (a n made : ℕ) (tile now : TileView) → TurnLeft a n made tile now → made < n → can_step (place_in_tile now.shape a) now ≡ true
-turn_can a n made tile now t h = ap (λ k. can_step k now) (same_place a n made tile now t) ∙ (steps_left a n made tile now t h).0
+pub turn_here : (a n made : ℕ) (tile now : TileView) → TurnLeft a n made tile now → is_here now.plan a ≡ true
+turn_here a n made tile now t = subst (λ (p : TilePlan). is_here p a ≡ true) (sym t.plan) t.here
 
--- a call that makes at most one step makes it, where it can
-pub one_made : (k made : ℕ) (old new : TileView) → can_step k old ≡ true → StepsUpTo k 1 made old new → new ≡ stepped k old
+-- a call that makes at most one step makes it, if it can
+pub one_made : (plan : TilePlan) (k made : ℕ) (old new : TileState) → can_step plan.shape.fuel k old ≡ true → StepsUpTo plan k 1 made old new → new ≡ stepped plan.code k old
 unfolding steps_of
-one_made k zero old new can s =
-    let same : old ≡ new = ap (λ (o : Option TileView). unwrap_or o new) s.steps in
-    let stops : can_step k old ≡ false = ap (can_step k) same ∙ s.stops (omega arith) in
+one_made plan k zero old new can s =
+    let same : old ≡ new = ap (λ (o : Option TileState). unwrap_or o new) s.steps in
+    let stops : can_step plan.shape.fuel k old ≡ false = ap (can_step plan.shape.fuel k) same ∙ s.stops (omega arith) in
     let not : true ≡ false = sym can ∙ stops in
     cc not
-one_made k (suc zero) old new can s =
-    let one : cond (can_step k old) (Some (stepped k old)) None ≡ Some new = s.steps in
-    let is : Some (stepped k old) ≡ Some new = sym (ap (λ b. cond b (Some (stepped k old)) None) can) ∙ one in
-    sym (ap (λ (o : Option TileView). unwrap_or o new) is)
-one_made k (suc (suc made)) old new can s = let few = s.few in absurd (omega arith)
+one_made plan k (suc zero) old new can s =
+    let one : cond (can_step plan.shape.fuel k old) (Some (stepped plan.code k old)) None ≡ Some new = s.steps in
+    let is : Some (stepped plan.code k old) ≡ Some new = sym (ap (λ b. cond b (Some (stepped plan.code k old)) None) can) ∙ one in
+    sym (ap (λ (o : Option TileState). unwrap_or o new) is)
+one_made plan k (suc (suc made)) old new can s = let few = s.few in absurd (omega arith)
 
 -- a thread that ended makes no step
-dead_stops : (k : ℕ) (v : TileView) (value : ℕ) → (thread_at v k).state ≡ state.Dead value → can_step k v ≡ true → ⊥
-dead_stops k v value e can =
-    let runs : runnable (sight_at v k) (thread_at v k).state ≡ true = (and_parts _ _ can).0 in
-    let not : true ≡ false = sym runs ∙ ap (runnable (sight_at v k)) e in
+dead_stops : (fuel k : ℕ) (s : TileState) (value : ℕ) → (thread_at s k).state ≡ state.Dead value → can_step fuel k s ≡ true → ⊥
+dead_stops fuel k s value e can =
+    let runs : runnable (sight_at s k) (thread_at s k).state ≡ true = (and_parts _ _ can).0 in
+    let not : true ≡ false = sym runs ∙ ap (runnable (sight_at s k)) e in
     cc not
 
-kept_count : (k : ℕ) (v : TileView) (o : Op) → k < length v.threads → can_step k v ≡ true → (step_at_place k v).op ≡ o → can_step k (next v k o) ≡ true → (next v k o).dropped ≡ v.dropped
+kept_count : (k : ℕ) (v : TileView) (o : Op) → k < length v.now.threads → can_step v.plan.shape.fuel k v.now ≡ true → (step_at_place v.plan.code k v.now).op ≡ o → can_step v.plan.shape.fuel k (next v k o) ≡ true → (next v k o).dropped ≡ v.now.dropped
 kept_count k v op.None h can e more = refl
 kept_count k v (op.Send to bytes) h can e more = refl
 kept_count k v op.Hand h can e more = refl
@@ -225,46 +227,50 @@ kept_count k v (op.Free slot) h can e more = refl
 kept_count k v (op.Idle vote) h can e more = refl
 kept_count k v (op.Trap why) h can e more = refl
 kept_count k v (op.Kill value) h can e more =
-    let is : thread_at (next v k (op.Kill value)) k ≡ (step_at_place k v).thread = get_or-set_same v.threads k (step_at_place k v).thread no_thread h in
+    let is : thread_at (next v k (op.Kill value)) k ≡ (step_at_place v.plan.code k v.now).thread = get_or-set_same v.now.threads k (step_at_place v.plan.code k v.now).thread no_thread h in
     let ended : (thread_at (next v k (op.Kill value)) k).state ≡ state.Dead value = ap (λ (t : Thread). t.state) is ∙ op_fits v k (op.Kill value) can e in
-    absurd (dead_stops k (next v k (op.Kill value)) value ended more)
+    absurd (dead_stops v.plan.shape.fuel k (next v k (op.Kill value)) value ended more)
 
--- where a step follows, no letter was dropped
-counted_on : (k : ℕ) (v : TileView) → k < length v.threads → can_step k v ≡ true → can_step k (stepped k v) ≡ true → (stepped k v).dropped ≡ v.dropped
-counted_on k v h can more = kept_count k v (step_at_place k v).op h can refl more
+-- if a step follows, no letter was dropped
+counted_on : (k : ℕ) (v : TileView) → k < length v.now.threads → can_step v.plan.shape.fuel k v.now ≡ true → can_step v.plan.shape.fuel k (stepped v.plan.code k v.now) ≡ true → (stepped v.plan.code k v.now).dropped ≡ v.now.dropped
+counted_on k v h can more = kept_count k v (step_at_place v.plan.code k v.now).op h can refl more
 
-still_here : (a k : ℕ) (v : TileView) → is_here a v ≡ true → is_here a (stepped k v) ≡ true
-still_here a k v here =
-    ap (λ n. has_thread n a && tile_of a == (stepped k v).tile) (stepped_shape k v)
-    ∙ (ap (λ t. has_thread v.shape a && tile_of a == t) (acted_tile k (thread_at v k) (step_at_place k v).op (with_thread k (step_at_place k v).thread v)) ∙ here)
+-- the tile after the next step, over the first tile's plan
+abbrev pub after_next : TileView → ℕ → TileView → TileView
+after_next tile a now = with_now now (stepped tile.plan.code (place_in_tile tile.plan.shape a) now.now)
 
-pub turn_next : (a n made steps : ℕ) (tile now new : TileView) → TurnLeft a n made tile now → made < n → StepsUpTo (place_in_tile now.shape a) 1 steps now new → WellShaped new →
-    (new ≡ stepped (place_in_tile now.shape a) now) × TurnLeft a n (made + 1) tile new
-turn_next a n made steps tile now new t h s shaped =
-    let k : ℕ = place_in_tile tile.shape a in
-    let can = turn_can a n made tile now t h in
-    let is : new ≡ stepped (place_in_tile now.shape a) now = one_made (place_in_tile now.shape a) steps now new can s in
-    let at : new ≡ stepped k now = is ∙ ap (λ j. stepped j now) (same_place a n made tile now t) in
+-- what the call made is the next step
+next_is : (a n made steps : ℕ) (tile now new : TileView) → TurnLeft a n made tile now → made < n → StepsUpTo now.plan (place_in_tile now.plan.shape a) 1 steps now.now new.now → new.now ≡ stepped tile.plan.code (place_in_tile tile.plan.shape a) now.now
+next_is a n made steps tile now new t h s =
+    let k : ℕ = place_in_tile tile.plan.shape a in
+    one_made tile.plan k steps now.now new.now (steps_left a n made tile now t h).0 (subst (λ (p : TilePlan). StepsUpTo p (place_in_tile p.shape a) 1 steps now.now new.now) t.plan s)
+
+pub turn_next : (a n made steps : ℕ) (tile now new : TileView) → TurnLeft a n made tile now → made < n → StepsUpTo now.plan (place_in_tile now.plan.shape a) 1 steps now.now new.now → new.plan ≡ now.plan → WellShaped new →
+    (new ≡ after_next tile a now) × TurnLeft a n (made + 1) tile new
+turn_next a n made steps tile now new t h s plan shaped =
+    let k : ℕ = place_in_tile tile.plan.shape a in
+    let at : new.now ≡ stepped tile.plan.code k now.now = next_is a n made steps tile now new t h s in
+    let is : new ≡ after_next tile a now = λ i. record { plan = plan i; now = at i } in
     let left = steps_left a n made tile now t h in
-    let below : k < length now.threads =
-    let low = place_below now.shape a (and_parts _ _ t.here).0 in
-    let same = same_place a n made tile now t in
-    let count = t.shaped.threads in
+    let here : TileView = record { plan = tile.plan; now = now.now } in
+    let below : k < length now.now.threads =
+    let low = place_below tile.plan.shape a (and_parts _ _ t.here).0 in
+    let count : length now.now.threads ≡ tile_threads tile.plan.shape = t.shaped.fits.threads.count ∙ ap (λ (p : TilePlan). tile_threads p.shape) t.plan in
     omega arith in (
       is,
       record {
-        here = ap (is_here a) at ∙ still_here a k now t.here;
-        shape = ap (λ (v : TileView). v.shape) at ∙ (stepped_shape k now ∙ t.shape);
+        here = t.here;
+        plan = plan ∙ t.plan;
         shaped = shaped;
-        left = ap (λ v. is_some (steps_of k (n - (made + 1)) v)) at ∙ left.1;
+        left = ap (λ s. is_some (steps_of tile.plan k (n - (made + 1)) s)) at ∙ left.1;
         counts = λ less.
-            let more = (first_step k (n - (made + 1 + 1)) (stepped k now) (ap (λ m. is_some (steps_of k m (stepped k now))) (sym (left_now n (made + 1) less)) ∙ left.1)).0 in
-            ap can_count at ∙ (ap (λ d. nat_lt d (2 ^ 63)) (counted_on k now below left.0 more) ∙ t.counts h);
+            let more = (first_step tile.plan k (n - (made + 1 + 1)) (stepped tile.plan.code k now.now) (ap (λ m. is_some (steps_of tile.plan k m (stepped tile.plan.code k now.now))) (sym (left_now n (made + 1) less)) ∙ left.1)).0 in
+            ap can_count at ∙ (ap (λ d. nat_lt d (2 ^ 63)) (counted_on k here below left.0 more) ∙ t.counts h);
       },
     )
 
 -- the steps that are left, one less
-turn_more : (a k m : ℕ) (v : TileView) → turn_steps a k (suc m) v ≡ thread_step a k v ++ turn_steps a k m (stepped k v)
+turn_more : (a k m : ℕ) (v : TileView) → turn_steps a k (suc m) v ≡ thread_step a k v ++ turn_steps a k m (after_step k v)
 unfolding turn_steps
 turn_more a k m v = refl
 
@@ -272,15 +278,16 @@ turn_none : (a k : ℕ) (v : TileView) → turn_steps a k 0 v ≡ []
 unfolding turn_steps
 turn_none a k v = refl
 
-pub turn_pushed : (a n made : ℕ) (tile now new : TileView) (before after : List BagStep) → TurnLeft a n made tile now → made < n → new ≡ stepped (place_in_tile now.shape a) now → after ≡ before ++ thread_step a (place_in_tile now.shape a) now →
-    after ++ turn_steps a (place_in_tile tile.shape a) (n - (made + 1)) new ≡ before ++ turn_steps a (place_in_tile tile.shape a) (n - made) now
+pub turn_pushed : (a n made : ℕ) (tile now new : TileView) (before after : List BagStep) → TurnLeft a n made tile now → made < n → new ≡ after_next tile a now → after ≡ before ++ thread_step a (place_in_tile now.plan.shape a) now →
+    after ++ turn_steps a (place_in_tile tile.plan.shape a) (n - (made + 1)) new ≡ before ++ turn_steps a (place_in_tile tile.plan.shape a) (n - made) now
 turn_pushed a n made tile now new before after t h is e =
-    let k : ℕ = place_in_tile tile.shape a in
-    let at = same_place a n made tile now t in
+    let k : ℕ = place_in_tile tile.plan.shape a in
+    let at : place_in_tile now.plan.shape a ≡ k = ap (λ (p : TilePlan). place_in_tile p.shape a) t.plan in
+    let code : after_next tile a now ≡ after_step k now = ap (λ (p : TilePlan). with_now now (stepped p.code k now.now)) (sym t.plan) in
     let m : ℕ = n - (made + 1) in
     ap (λ (ys : List BagStep). ys ++ turn_steps a k m new) (e ∙ ap (λ j. before ++ thread_step a j now) at)
-    ∙ (ap (λ v. (before ++ thread_step a k now) ++ turn_steps a k m v) (is ∙ ap (λ j. stepped j now) at)
-    ∙ (append_assoc before (thread_step a k now) (turn_steps a k m (stepped k now))
+    ∙ (ap (λ v. (before ++ thread_step a k now) ++ turn_steps a k m v) (is ∙ code)
+    ∙ (append_assoc before (thread_step a k now) (turn_steps a k m (after_step k now))
     ∙ ap (λ ys. before ++ ys) (sym (ap (λ j. turn_steps a k j now) (left_now n made h) ∙ turn_more a k m now))))
 
 pub turn_whole : (a k n : ℕ) (tile now : TileView) (before : List BagStep) → now ≡ tile → before ++ turn_steps a k (n - 0) now ≡ before ++ turn_steps a k n tile

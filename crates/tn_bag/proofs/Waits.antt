@@ -86,17 +86,17 @@ copied_at at p (c ∷ cs) = ap (λ (xs : List (Place × Letter)). (at, letter_fo
 pub from_none : (now before xs ys : List Letter) → before ≡ [] → now ≡ before ++ xs → xs ≡ ys → now ≡ ys
 from_none now before xs ys e is same = is ∙ (ap (λ zs. zs ++ xs) e ∙ same)
 
-pub leaving_letters : (on : Reach) (p : ℕ) (v : RouterView) (way : Port) (k : Packet) (o : Option Packet) (ls : List Letter) → o ≡ Some k → ls ≡ map (letter_for k.origin k.number) (copies_out on v.shape v.board way k) →
+pub leaving_letters : (on : Reach) (p : ℕ) (v : RouterView) (way : Port) (k : Packet) (o : Option Packet) (ls : List Letter) → o ≡ Some k → ls ≡ map (letter_for k.origin k.number) (copies_out on v.plan.shape v.plan.board way k) →
     map (λ l. (place.Transit (record { 0 = p }) way, l)) ls ≡ leaving_by on p v way o
 leaving_letters on p v way k o ls e is =
     ap (map (λ l. (place.Transit (record { 0 = p }) way, l))) is
-    ∙ (copied_at (place.Transit (record { 0 = p }) way) k (copies_out on v.shape v.board way k) ∙ ap (leaving_by on p v way) (sym e))
+    ∙ (copied_at (place.Transit (record { 0 = p }) way) k (copies_out on v.plan.shape v.plan.board way k) ∙ ap (leaving_by on p v way) (sym e))
 
-pub work_letters : (on : Reach) (p : ℕ) (v : RouterView) (side : Port) (w : Work) (o : Option Work) (ls : List Letter) → o ≡ Some w → ls ≡ map (letter_for w.packet.origin w.packet.number) (copies_left on v.shape v.board v.beats w) →
+pub work_letters : (on : Reach) (p : ℕ) (v : RouterView) (side : Port) (w : Work) (o : Option Work) (ls : List Letter) → o ≡ Some w → ls ≡ map (letter_for w.packet.origin w.packet.number) (copies_left on v.plan.shape v.plan.board v.plan.beats w) →
     map (λ l. (place.InProcess (record { 0 = p }) side, l)) ls ≡ works_from on p v side o
 work_letters on p v side w o ls e is =
     ap (map (λ l. (place.InProcess (record { 0 = p }) side, l))) is
-    ∙ (copied_at (place.InProcess (record { 0 = p }) side) w.packet (copies_left on v.shape v.board v.beats w) ∙ ap (works_from on p v side) (sym e))
+    ∙ (copied_at (place.InProcess (record { 0 = p }) side) w.packet (copies_left on v.plan.shape v.plan.board v.plan.beats w) ∙ ap (works_from on p v side) (sym e))
 
 pub crossing_letters : (n m : ShapeNumbers) (on : Reach) (p i : ℕ) (k : Packet) (o : Option Packet) (b : Board) (ls : List Letter) → m ≡ n → o ≡ Some k → has_packet m k ≡ true → b ≡ link_board m p →
     ls ≡ letters_from b m on k.origin k.number k.dest k.bytes → map (λ l. (place.OnLink (record { 0 = p }) i, l)) ls ≡ crossing_at n on p i o

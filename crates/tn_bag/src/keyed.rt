@@ -55,8 +55,8 @@ pub(crate) fn joined_beats(
     from: u32,
     end: u32,
 ) -> Result<Vec<RouteRec>, AllocError>
-    requires { end ≤ length router.now.beats }
-    ensures { IfOk result (λ all. all.items ≡ joined (drop from (take end router.now.beats))) }
+    requires { end ≤ length router.now.plan.beats }
+    ensures { IfOk result (λ all. all.items ≡ joined (drop from (take end router.now.plan.beats))) }
 {
     let mut all = Vec::new(alloc);
     for i in from..end {

@@ -7,16 +7,28 @@ ghost use Rattle.tn_letters.specs.Standing.{crossing_at, link_standing, owed_sta
 ghost use Rattle.tn_letters.specs.Tiles.{reach_of};
 
 use crate::keyed::{board_of, letters_at, link_board};
-use tn_letters::place::Place;
 use crate::router::push_router;
 use std::alloc::{AllocError, Global};
 use tn_base::ids::PartId;
 use tn_base::message::{Letter, Packet};
 use tn_base::port::Port;
+use tn_letters::place::Place;
 use tn_link::link::Link;
 use tn_tile::tile::Tile;
 use tn_world::part::Part;
 use tn_world::world::World;
+
+/// The ports in the order in which the letters of a part are listed.
+pub(crate) const PORTS: [Port; 8] = [
+    Port::East,
+    Port::West,
+    Port::South,
+    Port::North,
+    Port::Up,
+    Port::Down,
+    Port::HostPort,
+    Port::Here,
+];
 
 /// All letters that were sent and are neither handed nor dropped, each with its place: by part, then by the kind of
 /// place, then by what names it.
@@ -144,47 +156,10 @@ fn push_transit<L: Link>(
     ensures { OnOk result (all.new.items ≡ all.old.items ++ transit_standing (reach_of world.now) p tile.now) }
 {
     tile.kept();
-    let part = PartId(p);
-    push_packet(
-        all,
-        alloc,
-        world,
-        tile,
-        Place::Transit(part, Port::East),
-        tile.buffer(Port::East),
-    )?;
-    push_packet(
-        all,
-        alloc,
-        world,
-        tile,
-        Place::Transit(part, Port::West),
-        tile.buffer(Port::West),
-    )?;
-    push_packet(
-        all,
-        alloc,
-        world,
-        tile,
-        Place::Transit(part, Port::South),
-        tile.buffer(Port::South),
-    )?;
-    push_packet(
-        all,
-        alloc,
-        world,
-        tile,
-        Place::Transit(part, Port::North),
-        tile.buffer(Port::North),
-    )?;
-    push_packet(
-        all,
-        alloc,
-        world,
-        tile,
-        Place::Transit(part, Port::Up),
-        tile.buffer(Port::Up),
-    )?;
+    for way in &PORTS {
+        let place = Place::Transit(PartId(p), *way);
+        push_packet(all, alloc, world, tile, place, tile.buffer(*way))?;
+    }
     Ok(())
 }
 
@@ -197,8 +172,8 @@ fn push_packet<L: Link>(
     place: Place,
     packet: Option<&Packet>,
 ) -> Result<(), AllocError>
-    requires { MatchOption packet (Unit {0}) (λ p. IsTrue (has_packet tile.now.shape p.now)) }
-    ensures { OnOk result (all.new.items ≡ all.old.items ++ waiting tile.now.shape (reach_of world.now) place (option_copied packet.entry)) }
+    requires { MatchOption packet (Unit {0}) (λ p. IsTrue (has_packet tile.now.plan.shape p.now)) }
+    ensures { OnOk result (all.new.items ≡ all.old.items ++ waiting tile.now.plan.shape (reach_of world.now) place (option_copied packet.entry)) }
 {
     let Some(packet) = packet else {
         return Ok(());
@@ -236,7 +211,7 @@ fn push_slots(all: &mut Vec<(Place, Letter)>, tile: &Tile) -> Result<(), AllocEr
 
 /// The letters in one slot, for the threads that are owed it.
 fn push_owed(all: &mut Vec<(Place, Letter)>, tile: &Tile, slot: u16) -> Result<(), AllocError>
-    requires { slot < length tile.now.pool.slots }
+    requires { slot < length tile.now.now.pool.slots }
     ensures { OnOk result (all.new.items ≡ all.old.items ++ owed_standing tile.now slot) }
 {
     tile.kept();

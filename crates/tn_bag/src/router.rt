@@ -5,7 +5,7 @@ ghost use Rattle.tn_base.specs.Message.{has_packet};
 ghost use Rattle.tn_keys.specs.Copies.{Copy};
 ghost use Rattle.tn_router.specs.Kept.{FitsWork, WellShaped, is_keyed};
 ghost use Rattle.tn_router.specs.Left.{board_on, copies_left, copies_out, copies_to};
-ghost use Rattle.tn_router.specs.Places.{buffer_at, work_at};
+ghost use Rattle.tn_node.specs.PortRows.{at};
 ghost use Rattle.tn_router.specs.Rest.{rest_by};
 ghost use Rattle.tn_letters.specs.Letters.{letter_for};
 ghost use Rattle.tn_letters.specs.Standing.{leaving_by, out_standing, process_standing, router_standing, works_from};
@@ -14,8 +14,7 @@ ghost use Rattle.std.specs.Prelude.{ℕ, List};
 
 use crate::keyed::{joined_beats, push_key, push_masked, push_records};
 use crate::letters::letter_for;
-use tn_letters::place::Place;
-use crate::places::push_letters;
+use crate::places::{PORTS, push_letters};
 use std::alloc::{AllocError, Global};
 use tn_base::ids::{Board, PartId};
 use tn_base::message::{Dest, HOST, Letter, Packet};
@@ -24,6 +23,7 @@ use tn_base::shape::Shape;
 use tn_keys::key::Key;
 use tn_keys::onward::neighbour;
 use tn_keys::record::RouteRec;
+use tn_letters::place::Place;
 use tn_link::link::Link;
 use tn_router::router::Router;
 use tn_world::world::World;
@@ -52,12 +52,10 @@ fn push_out<L: Link>(
 ) -> Result<(), AllocError>
     ensures { OnOk result (all.new.items ≡ all.old.items ++ out_standing (reach_of world.now) p router.now) }
 {
-    push_leaving(all, alloc, world, p, router, Port::East)?;
-    push_leaving(all, alloc, world, p, router, Port::West)?;
-    push_leaving(all, alloc, world, p, router, Port::South)?;
-    push_leaving(all, alloc, world, p, router, Port::North)?;
-    push_leaving(all, alloc, world, p, router, Port::Down)?;
-    push_leaving(all, alloc, world, p, router, Port::HostPort)
+    for way in &PORTS {
+        push_leaving(all, alloc, world, p, router, *way)?;
+    }
+    Ok(())
 }
 
 /// The letters of the packets in process.
@@ -70,12 +68,10 @@ fn push_process<L: Link>(
 ) -> Result<(), AllocError>
     ensures { OnOk result (all.new.items ≡ all.old.items ++ process_standing (reach_of world.now) p router.now) }
 {
-    push_work(all, alloc, world, p, router, Port::East)?;
-    push_work(all, alloc, world, p, router, Port::West)?;
-    push_work(all, alloc, world, p, router, Port::South)?;
-    push_work(all, alloc, world, p, router, Port::North)?;
-    push_work(all, alloc, world, p, router, Port::Up)?;
-    push_work(all, alloc, world, p, router, Port::HostPort)
+    for side in &PORTS {
+        push_work(all, alloc, world, p, router, *side)?;
+    }
+    Ok(())
 }
 
 /// The letters of the packet that waits for a way out.
@@ -87,7 +83,7 @@ fn push_leaving<L: Link>(
     router: &Router,
     way: Port,
 ) -> Result<(), AllocError>
-    ensures { OnOk result (all.new.items ≡ all.old.items ++ leaving_by (reach_of world.now) p router.now way (buffer_at way router.now.out)) }
+    ensures { OnOk result (all.new.items ≡ all.old.items ++ leaving_by (reach_of world.now) p router.now way (at way router.now.now.node.out)) }
 {
     router.kept();
     let Some(packet) = router.buffer(way) else {
@@ -106,7 +102,7 @@ fn push_work<L: Link>(
     router: &Router,
     side: Port,
 ) -> Result<(), AllocError>
-    ensures { OnOk result (all.new.items ≡ all.old.items ++ works_from (reach_of world.now) p router.now side (work_at side router.now.process)) }
+    ensures { OnOk result (all.new.items ≡ all.old.items ++ works_from (reach_of world.now) p router.now side (at side router.now.now.inputs)) }
 {
     router.kept();
     let Some((packet, beat, at)) = router.in_process(side) else {
@@ -124,8 +120,8 @@ fn letters_out<L: Link>(
     way: Port,
     packet: &Packet,
 ) -> Result<Vec<Letter>, AllocError>
-    requires { IsTrue (has_packet router.now.shape packet.now) }
-    ensures { IfOk result (λ all. all.items ≡ map (letter_for packet.now.origin packet.now.number) (copies_out (reach_of world.now) router.now.shape router.now.board way packet.now)) }
+    requires { IsTrue (has_packet router.now.plan.shape packet.now) }
+    ensures { IfOk result (λ all. all.items ≡ map (letter_for packet.now.origin packet.now.number) (copies_out (reach_of world.now) router.now.plan.shape router.now.plan.board way packet.now)) }
 {
     let mut all = Vec::new(alloc);
     match packet.dest {
@@ -150,9 +146,9 @@ fn letters_left<L: Link>(
     beat: u32,
     at: u32,
 ) -> Result<Vec<Letter>, AllocError>
-    requires { IsTrue (has_packet router.now.shape packet.now) }
+    requires { IsTrue (has_packet router.now.plan.shape packet.now) }
     ensures { IfOk result (λ all. all.items ≡ map (letter_for packet.now.origin packet.now.number)
-        (copies_left (reach_of world.now) router.now.shape router.now.board router.now.beats (record { packet = packet.now; beat = beat; at = at }))) }
+        (copies_left (reach_of world.now) router.now.plan.shape router.now.plan.board router.now.plan.beats (record { packet = packet.now; beat = beat; at = at }))) }
 {
     router.kept();
     let shape = router.shape();
@@ -178,7 +174,7 @@ fn rest_records(
     beat: u32,
     at: u32,
 ) -> Result<Vec<RouteRec>, AllocError>
-    ensures { IfOk result (λ all. all.items ≡ rest_by router.now.beats (record { packet = packet.now; beat = beat; at = at }) key.0) }
+    ensures { IfOk result (λ all. all.items ≡ rest_by router.now.plan.beats (record { packet = packet.now; beat = beat; at = at }) key.0) }
 {
     let mut all = Vec::new(alloc);
     let first = key.first();
@@ -194,7 +190,7 @@ fn rest_records(
 
 /// The board whose router a way out leads to.
 fn board_on(router: &Router, way: Port) -> Option<Board>
-    ensures value { result ≡ board_on router.now.shape router.now.board way }
+    ensures value { result ≡ board_on router.now.plan.shape router.now.plan.board way }
     ensures x { IfSome result (λ b. b.x < 4) }
     ensures y { IfSome result (λ b. b.y < 4) }
 {

@@ -18,13 +18,13 @@ ghost use Rattle.tn_letters.specs.Steps.{bag_of, delivery_steps, event_steps, is
 ghost use Rattle.tn_keys.specs.Reach.{Reach};
 
 use crate::letters::plain_letters;
-use tn_letters::steps::BagStep;
 use crate::turns::push_turn;
 use std::alloc::{AllocError, Global};
 use tn_base::event::Event;
 use tn_base::ids::{PartId, ThreadId};
 use tn_base::message::{Letter, Packet};
 use tn_base::port::Port;
+use tn_letters::steps::BagStep;
 use tn_link::link::Link;
 use tn_thread::state::ThreadState;
 use tn_tile::tile::Tile;
@@ -108,8 +108,8 @@ fn push_sent(
     tile: &Tile,
     t: ThreadId,
 ) -> Result<(), AllocError>
-    requires { IsTrue (is_here t.0 tile.now) }
-    ensures { OnOk result ((reach : Reach) → all.new.items ≡ all.old.items ++ delivery_steps reach (pending_at tile.now (place_in_tile tile.now.shape t.0)) tile.now) }
+    requires { IsTrue (is_here tile.now.plan t.0) }
+    ensures { OnOk result ((reach : Reach) → all.new.items ≡ all.old.items ++ delivery_steps reach (pending_at tile.now.now (place_in_tile tile.now.plan.shape t.0)) tile.now) }
 {
     tile.kept();
     push_delivery(all, alloc, tile, tile.pending(t))
@@ -122,7 +122,7 @@ fn push_delivery(
     tile: &Tile,
     packet: Option<&Packet>,
 ) -> Result<(), AllocError>
-    requires { MatchOption packet (Unit {0}) (λ p. IsTrue (has_packet tile.now.shape p.now)) }
+    requires { MatchOption packet (Unit {0}) (λ p. IsTrue (has_packet tile.now.plan.shape p.now)) }
     ensures { OnOk result ((reach : Reach) → all.new.items ≡ all.old.items ++ delivery_steps reach (option_copied packet.entry) tile.now) }
 {
     let Some(packet) = packet else {

@@ -11,11 +11,11 @@ ghost use Rattle.tn_letters.specs.declared.steps.BagStep.TheVariants as bag;
 ghost use Rattle.tn_letters.specs.Steps.{first_letter, queued, seen_at, step_by, thread_step, turn_steps};
 ghost use Rattle.tn_letters.specs.Tiles.{letter_in};
 
-use tn_letters::steps::{BagStep, Seen};
 use std::alloc::AllocError;
 use tn_base::ids::ThreadId;
 use tn_base::message::Letter;
 use tn_base::op::Op;
+use tn_letters::steps::{BagStep, Seen};
 use tn_tile::tile::Tile;
 
 /// The steps of a turn: those of its thread, made one after another on a copy of the tile.
@@ -25,8 +25,8 @@ pub(crate) fn push_turn(
     t: ThreadId,
     n: u32,
 ) -> Result<(), AllocError>
-    requires { IsSome (turn_row t.0 n tile.now) }
-    ensures { OnOk result (all.new.items ≡ all.old.items ++ turn_steps t.0 (place_in_tile tile.now.shape t.0) n tile.now) }
+    requires { IsSome (turn_row tile.now.plan t.0 n tile.now.now) }
+    ensures { OnOk result (all.new.items ≡ all.old.items ++ turn_steps t.0 (place_in_tile tile.now.plan.shape t.0) n tile.now) }
 {
     tile.kept();
     let mut current = tile.copy()?;
@@ -40,9 +40,9 @@ pub(crate) fn push_turn(
 
 /// One step of a thread, and the letters that are dropped with it.
 fn push_step(all: &mut Vec<BagStep>, tile: &Tile, t: ThreadId) -> Result<(), AllocError>
-    requires here { IsTrue (is_here t.0 tile.now) }
-    requires can { IsTrue (can_step (place_in_tile tile.now.shape t.0) tile.now) }
-    ensures { OnOk result (all.new.items ≡ all.old.items ++ thread_step t.0 (place_in_tile tile.now.shape t.0) tile.now) }
+    requires here { IsTrue (is_here tile.now.plan t.0) }
+    requires can { IsTrue (can_step tile.now.plan.shape.fuel (place_in_tile tile.now.plan.shape t.0) tile.now.now) }
+    ensures { OnOk result (all.new.items ≡ all.old.items ++ thread_step t.0 (place_in_tile tile.now.plan.shape t.0) tile.now) }
 {
     let asked = tile.asks(t)?;
     all.push(step_by(tile, t, &asked))?;
@@ -54,9 +54,9 @@ fn push_step(all: &mut Vec<BagStep>, tile: &Tile, t: ThreadId) -> Result<(), All
 
 /// A thread's own step, by what it asks of the tile.
 fn step_by(tile: &Tile, t: ThreadId, asked: &Op) -> BagStep
-    requires here { IsTrue (is_here t.0 tile.now) }
-    requires hand { asked.now ≡ op.Hand → IsSome (first_of (queue_at tile.now.pool (place_in_tile tile.now.shape t.0))) }
-    ensures { result ≡ step_by t.0 (seen_at tile.now (place_in_tile tile.now.shape t.0)) (first_letter tile.now (place_in_tile tile.now.shape t.0)) asked.now }
+    requires here { IsTrue (is_here tile.now.plan t.0) }
+    requires hand { asked.now ≡ op.Hand → IsSome (first_of (queue_at tile.now.now.pool (place_in_tile tile.now.plan.shape t.0))) }
+    ensures { result ≡ step_by t.0 (seen_at tile.now (place_in_tile tile.now.plan.shape t.0)) (first_letter tile.now (place_in_tile tile.now.plan.shape t.0)) asked.now }
 {
     let thread = t.0;
     let seen = seen_by(tile, t);
@@ -75,8 +75,8 @@ fn step_by(tile: &Tile, t: ThreadId, asked: &Op) -> BagStep
 
 /// What the tile shows to a thread.
 fn seen_by(tile: &Tile, t: ThreadId) -> Seen
-    requires { IsTrue (is_here t.0 tile.now) }
-    ensures { result ≡ seen_at tile.now (place_in_tile tile.now.shape t.0) }
+    requires { IsTrue (is_here tile.now.plan t.0) }
+    ensures { result ≡ seen_at tile.now (place_in_tile tile.now.plan.shape t.0) }
 {
     tile.kept();
     let place = tile.shape().place_in_tile(t);
@@ -89,9 +89,9 @@ fn seen_by(tile: &Tile, t: ThreadId) -> Seen
 
 /// The letter that a thread would be handed.
 fn first_letter(tile: &Tile, t: ThreadId) -> Letter
-    requires here { IsTrue (is_here t.0 tile.now) }
-    requires first { IsSome (first_of (queue_at tile.now.pool (place_in_tile tile.now.shape t.0))) }
-    ensures { result ≡ first_letter tile.now (place_in_tile tile.now.shape t.0) }
+    requires here { IsTrue (is_here tile.now.plan t.0) }
+    requires first { IsSome (first_of (queue_at tile.now.now.pool (place_in_tile tile.now.plan.shape t.0))) }
+    ensures { result ≡ first_letter tile.now (place_in_tile tile.now.plan.shape t.0) }
 {
     tile.kept();
     tile.pool().kept();
@@ -101,8 +101,8 @@ fn first_letter(tile: &Tile, t: ThreadId) -> Letter
 
 /// The letters of the queue of a thread that ended are dropped.
 fn push_dropped(all: &mut Vec<BagStep>, tile: &Tile, t: ThreadId) -> Result<(), AllocError>
-    requires { IsTrue (is_here t.0 tile.now) }
-    ensures { OnOk result (all.new.items ≡ all.old.items ++ map bag.Discard (queued tile.now (place_in_tile tile.now.shape t.0))) }
+    requires { IsTrue (is_here tile.now.plan t.0) }
+    ensures { OnOk result (all.new.items ≡ all.old.items ++ map bag.Discard (queued tile.now (place_in_tile tile.now.plan.shape t.0))) }
 {
     tile.kept();
     tile.pool().kept();
@@ -119,9 +119,9 @@ fn push_dropped(all: &mut Vec<BagStep>, tile: &Tile, t: ThreadId) -> Result<(), 
 
 /// The letter that a slot has for a thread.
 fn letter_in(tile: &Tile, slot: u16, t: ThreadId) -> Letter
-    requires here { IsTrue (is_here t.0 tile.now) }
-    requires used { IsSome (message_at tile.now.pool slot) }
-    ensures { result ≡ letter_in tile.now (place_in_tile tile.now.shape t.0) slot }
+    requires here { IsTrue (is_here tile.now.plan t.0) }
+    requires used { IsSome (message_at tile.now.now.pool slot) }
+    ensures { result ≡ letter_in tile.now (place_in_tile tile.now.plan.shape t.0) slot }
 {
     let (origin, number) = tile.sender(slot).unwrap();
     let bytes = tile.pool().bytes(slot).unwrap();

@@ -6,7 +6,7 @@ use Rattle.tn_bag.proofs.keyed.joined_beats.Goals.{in-Some+in_ok-extend_from_sli
 
 pub loop-i-preserved : goal.loop-i-preserved
 loop-i-preserved c =
-    let t = c.args.router.now.beats in
+    let t = c.args.router.now.plan.beats in
     let i = c.loop-i.i in
     let read = beat_read t i c.beat.result c.beat.ensures in
     elim c.match-beat.branch [

@@ -5,4 +5,4 @@ use Rattle.tn_bag.proofs.Loops.{from_on}
 use Rattle.tn_bag.proofs.places.push_owed.Given as goal
 
 abbrev pub invariant-loop-place : goal.invariant-loop-place
-invariant-loop-place l = l.all.items ++ from_on (owed_to l.tile l.slot) l.place (tile_threads l.tile.shape) ≡ l.initial.all.items ++ owed_standing l.tile l.slot
+invariant-loop-place l = l.all.items ++ from_on (owed_to l.tile l.slot) l.place (tile_threads l.tile.plan.shape) ≡ l.initial.all.items ++ owed_standing l.tile l.slot

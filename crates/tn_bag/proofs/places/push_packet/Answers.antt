@@ -16,5 +16,5 @@ returns g c =
     (ap (λ (xs : List Letter). map (λ l. (c.args.place, l)) xs) (c.deref.ensures.value ∙ (c.in_ok-letters.ensures
     ∙ (ap (λ b. letters_from b c.shape.result on p.origin p.number p.dest p.bytes) c.board_of-board.ensures.value
     ∙ ap (λ n. letters_from (board_of p.origin) n on p.origin p.number p.dest p.bytes) c.shape.ensures)))
-    ∙ ap (λ (o : Option (Bor Packet)). waiting c.args.tile.now.shape on c.args.place (option_copied o)) (sym c.in-Some.is))
+    ∙ ap (λ (o : Option (Bor Packet)). waiting c.args.tile.now.plan.shape on c.args.place (option_copied o)) (sym c.in-Some.is))
     c.push_letters.ensures

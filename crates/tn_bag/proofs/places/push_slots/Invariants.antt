@@ -4,4 +4,4 @@ use Rattle.tn_bag.proofs.Loops.{from_on}
 use Rattle.tn_bag.proofs.places.push_slots.Given as goal
 
 abbrev pub invariant-loop-slot : goal.invariant-loop-slot
-invariant-loop-slot l = l.all.items ++ from_on (owed_standing l.tile) l.slot (length l.tile.pool.slots) ≡ l.initial.all.items ++ slots_standing l.tile
+invariant-loop-slot l = l.all.items ++ from_on (owed_standing l.tile) l.slot (length l.tile.now.pool.slots) ≡ l.initial.all.items ++ slots_standing l.tile

@@ -17,10 +17,10 @@ returns g c =
     elim c.match-packet.branch [
       | in-Key+in_ok-rest-in-Key+in_ok-push_records-in-Key w ↦
           ap (λ x. x.items) w.all-is ∙ from_none w.push_records.new.all.items c.new-all.result.items _ _ c.new-all.ensures.items w.in_ok-push_records-in-Key.ensures
-          (walked (letter_for c.args.packet.now.origin c.args.packet.now.number) c.args.world.now v.shape c.shape-shape.result v.board w.board-board.result v.beats work w.in-Key.key w.deref.result.now
+          (walked (letter_for c.args.packet.now.origin c.args.packet.now.number) c.args.world.now v.plan.shape c.shape-shape.result v.plan.board w.board-board.result v.plan.beats work w.in-Key.key w.deref.result.now
           w.in-Key.is c.shape-shape.ensures w.board-board.ensures (w.deref.ensures.value ∙ w.in_ok-rest-in-Key.ensures))
       | in-Thread+in_ok-push_whole-in-Thread w ↦
           let plain : is_keyed c.args.packet.now.dest ≡ false = search rules in
           ap (λ x. x.items) w.all-is ∙ from_none w.push_whole.new.all.items c.new-all.result.items _ _ c.new-all.ensures.items
-          (w.in_ok-push_whole-in-Thread.ensures (λ key. walk (reached (reach_of c.args.world.now) c.args.packet.now.bytes) v.shape v.board c.args.packet.now.bytes (rest_of v.beats work)) plain) refl
+          (w.in_ok-push_whole-in-Thread.ensures (λ key. walk (reached (reach_of c.args.world.now) c.args.packet.now.bytes) v.plan.shape v.plan.board c.args.packet.now.bytes (rest_of v.plan.beats work)) plain) refl
     ]

@@ -6,7 +6,7 @@ use Rattle.tn_bag.proofs.router.rest_records.Goals as goal
 
 pub returns : goal.returns
 returns c =
-    let t = c.args.router.now.beats in
+    let t = c.args.router.now.plan.beats in
     let work : Work = record { packet = c.args.packet.now; beat = c.args.beat; at = c.args.at } in
     let some : c.count-count.result ≢ 0 = search rules in
     let from : c.first-first.result ≤ c.args.beat = search rules in

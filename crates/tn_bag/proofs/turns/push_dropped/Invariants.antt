@@ -9,5 +9,5 @@ use Rattle.tn_bag.proofs.turns.push_dropped.Given as goal
 
 abbrev pub invariant-loop-taken : goal.invariant-loop-taken
 invariant-loop-taken l =
-    QueueLeft l.tile.pool l.pool (place_in_tile l.tile.shape l.t.0) l._taken
-    × (l.all.items ++ map bag.Discard (map (letter_in l.tile (place_in_tile l.tile.shape l.t.0)) (queue_at l.pool (place_in_tile l.tile.shape l.t.0))) ≡ l.initial.all.items ++ map bag.Discard (queued l.tile (place_in_tile l.tile.shape l.t.0)))
+    QueueLeft l.tile.now.pool l.pool (place_in_tile l.tile.plan.shape l.t.0) l._taken
+    × (l.all.items ++ map bag.Discard (map (letter_in l.tile (place_in_tile l.tile.plan.shape l.t.0)) (queue_at l.pool (place_in_tile l.tile.plan.shape l.t.0))) ≡ l.initial.all.items ++ map bag.Discard (queued l.tile (place_in_tile l.tile.plan.shape l.t.0)))

@@ -7,4 +7,4 @@ use Rattle.tn_bag.proofs.turns.push_turn.Given as goal
 abbrev pub invariant-loop-made : goal.invariant-loop-made
 invariant-loop-made l =
     TurnLeft l.t.0 l.n l._made l.tile l.current
-    × (l.all.items ++ turn_steps l.t.0 (place_in_tile l.tile.shape l.t.0) (l.n - l._made) l.current ≡ l.initial.all.items ++ turn_steps l.t.0 (place_in_tile l.tile.shape l.t.0) l.n l.tile)
+    × (l.all.items ++ turn_steps l.t.0 (place_in_tile l.tile.plan.shape l.t.0) (l.n - l._made) l.current ≡ l.initial.all.items ++ turn_steps l.t.0 (place_in_tile l.tile.plan.shape l.t.0) l.n l.tile)
