@@ -7,6 +7,8 @@ use Rattle.tn_base.specs.Message.{slot_bytes}
 use Rattle.tn_base.specs.Parts.{tile_at, tile_count}
 use Rattle.tn_base.specs.Shape.{is_shape}
 use Rattle.tn_keys.specs.Accepted.{Accepted}
+use Rattle.tn_node.specs.NodeRows.{fresh_node}
+use Rattle.tn_node.specs.PortRows.{no_values}
 use Rattle.tn_router.specs.RouterView.{RouterView}
 use Rattle.tn_rows.specs.Events.{IsWorld}
 use Rattle.tn_rows.specs.PartView.{PartView, TileV, RouterV, LinkV, AbsentV}
@@ -82,23 +84,17 @@ IsLeast (Some line) lines = IsIn line lines × AllByRecursion (λ l. line ≤ l)
 
 -- nothing has happened on a tile
 pub record IsFresh (v : TileView) : Type 0 where
-  pub pending : v.pending ≡ replicate (tile_threads v.shape) None
-  pub pool : v.pool ≡ fresh v.shape.slots (tile_threads v.shape) (slot_bytes v.shape)
-  pub transit : v.transit ≡ record { east = None; west = None; south = None; north = None; up = None }
-  pub dropped : v.dropped ≡ 0
-  pub counter : v.counter ≡ pos 0
-  pub white : v.black ≡ false
-  pub free : v.held ≡ false
-  pub going : v.ended ≡ None
+  pub pending : v.now.pending ≡ replicate (tile_threads v.plan.shape) None
+  pub pool : v.now.pool ≡ fresh v.plan.shape.slots (tile_threads v.plan.shape) (slot_bytes v.plan.shape)
+  pub node : v.now.node ≡ fresh_node
+  pub dropped : v.now.dropped ≡ 0
+  pub going : v.now.ended ≡ None
 
 -- nothing has happened on a router
 pub record IsFreshRouter (v : RouterView) : Type 0 where
-  pub process : v.process ≡ record { up = None; east = None; west = None; south = None; north = None; host = None }
-  pub out : v.out ≡ record { east = None; west = None; south = None; north = None; down = None; host = None }
-  pub counter : v.counter ≡ pos 0
-  pub white : v.black ≡ false
-  pub free : v.held ≡ false
-  pub going : v.ended ≡ None
+  pub inputs : v.now.inputs ≡ no_values
+  pub node : v.now.node ≡ fresh_node
+  pub going : v.now.ended ≡ None
 
 abbrev pub IsFreshPart : PartView → Type 0
 IsFreshPart (TileV v) = IsFresh v
