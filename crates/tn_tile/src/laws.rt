@@ -22,7 +22,7 @@ pub fn law_packed(shape: &Shape, mask: Mask)
     let _numbers = shape.numbers();
 }
 
-/// Where a turn of so many steps is possible, so is each shorter one.
+/// If a turn of n steps is possible, so is each shorter turn.
 pub fn law_turns(tile: &Tile, t: ThreadId)
-    ensures { (n m : ℕ) → IsSome (turn_row t.0 n tile.now) → 1 ≤ m → m ≤ n → IsSome (turn_row t.0 m tile.now) }
+    ensures { (n m : ℕ) → IsSome (turn_row tile.now.plan t.0 n tile.now.now) → 1 ≤ m → m ≤ n → IsSome (turn_row tile.now.plan t.0 m tile.now.now) }
 {}

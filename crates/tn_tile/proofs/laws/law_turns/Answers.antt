@@ -1,5 +1,0 @@
-use Rattle.tn_tile.proofs.Turns.{shorter_turn}
-use Rattle.tn_tile.proofs.laws.law_turns.Goals as goal
-
-pub returns : goal.returns
-returns c = λ n m some low high. shorter_turn c.args.t.0 n m c.args.tile.now some low high
