@@ -1,3 +1,9 @@
+pub mod Dead
+pub mod Elsewhere
 pub mod Ends
+pub mod Marked
+pub mod Moved
 pub mod Packed
 pub mod Runs
+pub mod Shaped
+pub mod Steps

@@ -33,10 +33,10 @@ impl Tile {
             return Did::Nothing;
         }
         let place = self.plan.place(t);
-        let Some(woken) = self.now.deliver(&self.plan, place) else {
+        let Some(woken) = self.state.deliver(&self.plan, place) else {
             return Did::Nothing;
         };
-        self.ready = look_at(self.ready, &self.now, self.plan.fuel(), woken.with(place));
+        self.ready = look_at(self.ready, &self.state, self.plan.fuel(), woken.with(place));
         Did::Moved
     }
 
@@ -45,9 +45,9 @@ impl Tile {
         requires { IsTrue (is_here self.now.plan t.0) }
         ensures { result ≡ is_some (deliver_row self.now.plan t.0 self.now.now) }
     {
-        match self.now.pending.get(self.plan.place(t)) {
+        match self.state.pending.get(self.plan.place(t)) {
             None => false,
-            Some(packet) => self.counts() && self.now.has_room(&self.plan, packet),
+            Some(packet) => self.counts() && self.state.has_room(&self.plan, packet),
         }
     }
 
@@ -55,7 +55,7 @@ impl Tile {
     pub fn offer(&self, way: Port) -> Option<&Packet>
         ensures { option_copied result ≡ offered way self.now.now.node }
     {
-        self.now.node.offer(way)
+        self.state.node.offer(way)
     }
 
     /// The packet that waits for a way out has gone to a link.
@@ -63,14 +63,14 @@ impl Tile {
         requires { IsSome (depart_row way self.old.now) }
         ensures { now_by self.old (depart_row way self.old.now) ≡ Some self.new }
     {
-        self.now.node.depart(way);
+        self.state.node.depart(way);
     }
 
     /// Whether the tile would take a packet from a link.
     pub fn accepts(&self, p: &Packet) -> bool
         ensures { result ≡ is_some (accepted self.now.plan p.now self.now.now) }
     {
-        self.plan.has_packet(p) && self.now.has_room(&self.plan, p)
+        self.plan.has_packet(p) && self.state.has_room(&self.plan, p)
     }
 
     /// Takes a packet from a link. Answers for how many dead receivers on this tile it was dropped.
@@ -79,9 +79,9 @@ impl Tile {
         ensures row { now_by self.old (accept_row self.old.plan p.now self.old.now) ≡ Some self.new }
         ensures dropped { result ≡ self.new.now.dropped - self.old.now.dropped }
     {
-        let before = self.now.dropped;
-        let woken = self.now.accept(&self.plan, p);
-        self.ready = look_at(self.ready, &self.now, self.plan.fuel(), woken);
-        (self.now.dropped - before) as u32
+        let before = self.state.dropped;
+        let woken = self.state.accept(&self.plan, p);
+        self.ready = look_at(self.ready, &self.state, self.plan.fuel(), woken);
+        (self.state.dropped - before) as u32
     }
 }

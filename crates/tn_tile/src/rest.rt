@@ -19,68 +19,68 @@ impl Tile {
     pub fn still(&self) -> bool
         ensures { result ≡ is_still self.now.now }
     {
-        all_rest(self.now.threads.all())
-            && all_empty(&self.now.pool)
-            && self.now.pending.is_empty()
-            && self.now.node.out.is_empty()
+        all_rest(self.state.threads.all())
+            && all_empty(&self.state.pool)
+            && self.state.pending.is_empty()
+            && self.state.node.out.is_empty()
     }
 
     /// Whether a thread of the tile has not ended.
     pub fn live(&self) -> bool
         ensures { result ≡ has_live self.now.now }
     {
-        any_live(self.now.threads.all())
+        any_live(self.state.threads.all())
     }
 
     /// Whether all threads that have not ended vote for the end.
     pub fn votes(&self) -> bool
         ensures { result ≡ all_vote self.now.now }
     {
-        all_agree(self.now.threads.all())
+        all_agree(self.state.threads.all())
     }
 
     /// Whether the tile took a packet from a link since it reported last.
     pub fn black(&self) -> bool
         ensures { result ≡ self.now.now.node.black }
     {
-        self.now.node.black
+        self.state.node.black
     }
 
     /// Whether the tile puts no packet on a link.
     pub fn held(&self) -> bool
         ensures { result ≡ self.now.now.node.held }
     {
-        self.now.node.held
+        self.state.node.held
     }
 
     /// Packets put on links less packets taken from links.
     pub fn counter(&self) -> i64
         ensures { result ≡ self.now.now.node.counter }
     {
-        self.now.node.counter
+        self.state.node.counter
     }
 
     /// The tile has reported.
     pub fn whiten(&mut self)
         ensures { self.new ≡ with_now self.old (tile_whitened self.old.now) }
     {
-        self.now.node.whiten();
+        self.state.node.whiten();
     }
 
     /// Gives all idle threads their answer, and holds the tile's packets until it is let go.
     pub fn release(&mut self, value: u32)
         ensures { self.new ≡ with_now self.old (released value self.old.now) }
     {
-        self.now.threads.tell(value);
-        self.now.node.hold();
-        self.ready = all_ready(&self.plan, &self.now);
+        self.state.threads.tell(value);
+        self.state.node.hold();
+        self.ready = all_ready(&self.plan, &self.state);
     }
 
     /// Lets the tile's packets go.
     pub fn go(&mut self)
         ensures { self.new ≡ with_now self.old (gone_on self.old.now) }
     {
-        self.now.node.go();
+        self.state.node.go();
     }
 }
 

@@ -57,8 +57,8 @@ impl Tile {
         ensures plan { self.new.plan ≡ self.old.plan }
     {
         let place = self.plan.place(t);
-        let made = self.now.turn(&self.plan, place, most);
-        let can = self.now.can_step(self.plan.fuel(), place);
+        let made = self.state.turn(&self.plan, place, most);
+        let can = self.state.can_step(self.plan.fuel(), place);
         self.ready = write_bit(self.ready, place, can);
         made
     }
@@ -71,11 +71,11 @@ impl Tile {
     {
         let place = self.plan.place(t);
         let sight = TileSight {
-            pool: &self.now.pool,
+            pool: &self.state.pool,
             place,
-            can_send: self.now.pending.is_free(place),
+            can_send: self.state.pending.is_free(place),
         };
-        let mut thread = self.now.threads.get(place).copy()?;
+        let mut thread = self.state.threads.get(place).copy()?;
         Ok(advance(self.plan.code(), &mut thread, &sight))
     }
 

@@ -34,7 +34,7 @@ const MOST_DROPPED: u64 = 1 << 63;
 #[derive(Drop)]
 pub struct Tile {
     pub(crate) plan: Plan,
-    pub(crate) now: TileState,
+    pub(crate) state: TileState,
     pub(crate) ready: u64,
 }
 
@@ -44,9 +44,9 @@ impl Model for Tile {
 
     ghost Value = { TileView };
 
-    ghost view = { λ t. record { plan = t.plan; now = t.now } };
+    ghost view = { λ t. record { plan = t.plan; now = t.state } };
 
-    ghost invariant = { λ t. KnowsReady (record { plan = t.plan; now = t.now }) t.ready };
+    ghost invariant = { λ t. KnowsReady (record { plan = t.plan; now = t.state }) t.ready };
 }
 
 /// The state of a tile at its start.
@@ -82,9 +82,9 @@ impl Tile {
         ensures { IfOk result (λ t. t ≡ fresh_tile shape.now tile.0 code.now threads.items) }
     {
         let plan = Plan::of(alloc, shape, tile, code)?;
-        let now = start_of(alloc, shape, threads)?;
-        let ready = all_ready(&plan, &now);
-        Ok(Tile { plan, now, ready })
+        let state = start_of(alloc, shape, threads)?;
+        let ready = all_ready(&plan, &state);
+        Ok(Tile { plan, state, ready })
     }
 
     /// The machine that the tile is a part of.
@@ -106,21 +106,21 @@ impl Tile {
         requires { IsTrue (is_here self.now.plan t.0) }
         ensures { result.now ≡ thread_at self.now.now (place_in_tile self.now.plan.shape t.0) }
     {
-        self.now.threads.get(self.plan.place(t))
+        self.state.threads.get(self.plan.place(t))
     }
 
     /// The threads by ascending address.
     pub fn threads(&self) -> &[Thread]
         ensures { result.now ≡ self.now.now.threads }
     {
-        self.now.threads.all()
+        self.state.threads.all()
     }
 
     /// The message slots of the tile.
     pub fn pool(&self) -> &Pool
         ensures { result.now ≡ self.now.now.pool }
     {
-        &self.now.pool
+        &self.state.pool
     }
 
     /// The packet that a thread sent and that is not delivered yet.
@@ -128,36 +128,36 @@ impl Tile {
         requires { IsTrue (is_here self.now.plan t.0) }
         ensures { option_copied result ≡ pending_at self.now.now (place_in_tile self.now.plan.shape t.0) }
     {
-        self.now.pending.get(self.plan.place(t))
+        self.state.pending.get(self.plan.place(t))
     }
 
     /// The first thread that trapped here, and how.
     pub fn ended(&self) -> Option<(ThreadId, Trap)>
         ensures { result ≡ self.now.now.ended }
     {
-        self.now.ended
+        self.state.ended
     }
 
     /// How many letters were dropped here since their receivers were dead.
     pub fn dropped(&self) -> u64
         ensures { result ≡ self.now.now.dropped }
     {
-        self.now.dropped
+        self.state.dropped
     }
 
     /// The packet that waits for a way out, held or not.
     pub fn buffer(&self, way: Port) -> Option<&Packet>
         ensures { option_copied result ≡ at way self.now.now.node.out }
     {
-        self.now.node.out.get(way)
+        self.state.node.out.get(way)
     }
 
     /// Whose packet a slot has, and which of its packets; None if the slot is free.
     pub fn sender(&self, slot: u16) -> Option<(u32, u32)>
         ensures { result ≡ sender_of slot self.now.now }
     {
-        self.now.pool.bytes(slot)?;
-        let sender = self.now.senders.get(slot);
+        self.state.pool.bytes(slot)?;
+        let sender = self.state.senders.get(slot);
         Some((sender.origin, sender.number))
     }
 
@@ -166,7 +166,7 @@ impl Tile {
     pub fn counts(&self) -> bool
         ensures { result ≡ can_count self.now.now }
     {
-        self.now.dropped < MOST_DROPPED
+        self.state.dropped < MOST_DROPPED
     }
 
     /// Whether the tile is this tile of this machine.
@@ -202,7 +202,7 @@ impl Tile {
     pub fn next_send(&self, from: u32) -> Option<u32>
         ensures { IsFirst (λ k. is_some (pending_at self.now.now k)) from (tile_threads self.now.plan.shape) result }
     {
-        self.now.pending.next(from)
+        self.state.pending.next(from)
     }
 
     /// The same tile.
@@ -211,7 +211,7 @@ impl Tile {
     {
         Ok(Tile {
             plan: self.plan.copy()?,
-            now: self.now.copy()?,
+            state: self.state.copy()?,
             ready: self.ready,
         })
     }
@@ -228,5 +228,5 @@ impl Tile {
 fn same_parts(a: &Tile, b: &Tile) -> bool
     ensures { IsTrue result ↔ ((a.now.plan ≡ b.now.plan) × (a.now.now ≡ b.now.now)) }
 {
-    a.plan.same(&b.plan) && a.now.same(&b.now)
+    a.plan.same(&b.plan) && a.state.same(&b.state)
 }
