@@ -4,6 +4,11 @@ pub mod Ends
 pub mod Marked
 pub mod Moved
 pub mod Packed
+pub mod Packets
 pub mod Runs
 pub mod Shaped
+pub mod Fresh
+pub mod Made
 pub mod Steps
+pub mod Turned
+pub mod Turns

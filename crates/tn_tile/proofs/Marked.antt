@@ -32,11 +32,11 @@ marks_write f g old new at m written others same = record {
 }
 
 -- the bits of some places were looked at
-pub marks_look : (f g : ℕ → Bool) (old new places : ℕ) → Marks f old → LooksAt old new places g → ((k : ℕ) → bit_at places k ≡ 0 → g k ≡ f k) → Marks g new
+pub marks_look : (f g : ℕ → Bool) (old new places : ℕ) → Marks f old → LooksAt old new places g → ((k : ℕ) → k < 64 → bit_at places k ≡ 0 → g k ≡ f k) → Marks g new
 marks_look f g old new places m l same = record {
   each = λ k h. elim (bit_cases places k) [
     | inl one ↦ l.seen k h one
-    | inr none ↦ ap (λ b. b == 1) (l.kept k h none) ∙ m.each k h ∙ sym (same k none)
+    | inr none ↦ ap (λ b. b == 1) (l.kept k h none) ∙ m.each k h ∙ sym (same k h none)
   ];
 }
 

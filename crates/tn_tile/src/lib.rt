@@ -11,7 +11,7 @@ mod bits;
 mod code;
 pub mod deliver;
 pub mod laws;
-mod packets;
+mod pass;
 pub mod pending;
 mod plan;
 mod ready;

@@ -1,12 +1,13 @@
 //! Packets that come to a tile: to its threads, or on to other parts.
 
-ghost use Rattle.std.specs.Prelude.{◌≡◌, ◌≤◌, ◌<◌, ◌+◌, ◌-◌, IsTrue, IsSome, Some, is_some};
+ghost use Rattle.std.specs.Prelude.{◌≡◌, ◌≤◌, ◌<◌, ◌+◌, ◌^◌, IsTrue, IsSome, Some, is_some, length};
+ghost use Rattle.tn_base.specs.Does.{Does};
 ghost use Rattle.tn_base.specs.Message.{has_packet};
 ghost use Rattle.tn_base.specs.Address.{tile_threads};
 ghost use Rattle.tn_tile.specs.Kept.{IsFit, PoolFits};
 ghost use Rattle.tn_tile.specs.Passes.{Delivers, Passes, Wakes};
 ghost use Rattle.tn_tile.specs.Receivers.{alive_of, receivers};
-ghost use Rattle.tn_tile.specs.Rows.{accept_row, can_count, delivered_from, passed, received, sent_on};
+ghost use Rattle.tn_tile.specs.Rows.{accept_row, can_count, delivered_from, passed, received, sent_on, stored};
 ghost use Rattle.tn_tile.specs.Step.{pending_at};
 
 use crate::plan::Plan;
@@ -98,18 +99,32 @@ impl TileState {
         let all = plan.receivers(&p.dest);
         let dead = self.threads.dead();
         let alive = Mask::of(all.bits() & !dead.bits());
-        if !alive.is_empty() {
-            let Ok(slot) = self.pool.put(&p.bytes, alive) else {
-                return Err(p);
-            };
-            let sender = Sender {
-                origin: p.origin,
-                number: p.number,
-            };
-            self.senders.set(slot, sender);
+        if !self.store(&p, alive) {
+            return Err(p);
         }
         self.dropped += u64::from((all.bits() & dead.bits()).count_ones());
         Ok(alive)
+    }
+
+    /// Puts a packet into a slot for these threads, unless there is no thread or no slot.
+    fn store(&mut self, p: &Packet, threads: Mask) -> bool
+        requires threads { threads < 2 ^ length self.old.pool.queues }
+        requires bytes { length p.now.bytes ≤ self.old.pool.slot_bytes }
+        requires senders { length self.old.senders ≡ length self.old.pool.slots }
+        ensures { Does result (stored threads p.now self.old) self.old self.new }
+    {
+        if threads.is_empty() {
+            return true;
+        }
+        let Ok(slot) = self.pool.put(&p.bytes, threads) else {
+            return false;
+        };
+        let sender = Sender {
+            origin: p.origin,
+            number: p.number,
+        };
+        self.senders.set(slot, sender);
+        true
     }
 
     /// The receivers of a packet on this tile that are alive.
