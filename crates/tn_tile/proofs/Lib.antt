@@ -8,6 +8,7 @@ pub mod Packets
 pub mod Runs
 pub mod Shaped
 pub mod Fresh
+pub mod Known
 pub mod Made
 pub mod Steps
 pub mod Turned

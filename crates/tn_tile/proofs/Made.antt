@@ -65,6 +65,15 @@ stepped_ends threads k dead code seen o h w runs is ends =
       dead = ap (λ m. with_bit m k) w.dead ∙ sym (dead_more threads k (next_step code seen t).thread h w.few (next_ends code seen t living ∙ ap kills (sym is) ∙ ends));
     }
 
+pub no_kill : (o : Op) → ((value : ℕ) → o ≡ op.Kill value → ⊥) → kills o ≡ false
+no_kill op.None h = refl
+no_kill (op.Send to bytes) h = refl
+no_kill op.Hand h = refl
+no_kill (op.Free slot) h = refl
+no_kill (op.Idle vote) h = refl
+no_kill (op.Kill value) h = absurd (h value refl)
+no_kill (op.Trap why) h = refl
+
 noted_first : (o : Option (ThreadId × Trap)) → is_some o ≡ false → (why : Trap) (id : ThreadId) → Some (id, why) ≡ noted id why o
 noted_first None e why id = refl
 noted_first (Some first) e why id = cc e

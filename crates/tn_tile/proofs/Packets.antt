@@ -359,3 +359,10 @@ pub set_back : {X : Type 0} (xs : List X) (k : ℕ) (x y d : X) → get_or xs k 
 set_back [] k x y d e = refl
 set_back (z ∷ zs) zero x y d e = ap (λ w. w ∷ zs) (sym e)
 set_back (z ∷ zs) (suc k) x y d e = ap (λ ws. z ∷ ws) (set_back zs k x y d e)
+
+-- a packet that was not passed on is put back
+pub put_back : (s t : TileState) (k : ℕ) (p q : Packet) → pending_at s k ≡ Some p → t ≡ record s { pending = set s.pending k None } → q ≡ p → record t { pending = set t.pending k (Some q) } ≡ s
+put_back s t k p q read same is =
+    ap (λ (x : TileState). record x { pending = set x.pending k (Some q) }) same
+    ∙ ap (λ r. record s { pending = set (set s.pending k None) k (Some r) }) is
+    ∙ ap (λ ps. record s { pending = ps }) (set_back s.pending k (Some p) None None read)

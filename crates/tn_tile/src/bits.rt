@@ -4,6 +4,15 @@ ghost use Rattle.std.specs.Prelude.{◌≡◌, ◌≢◌, ◌<◌, ◌==◌, ℕ
 ghost use Rattle.std.specs.Int.{bit_at};
 ghost use Rattle.tn_tile.specs.Ready.{IsFirst};
 
+/// Whether a bit of the word is one.
+#[inline(always)]
+pub(crate) fn has_bit(word: u64, at: u32) -> bool
+    requires { at < 64 }
+    ensures { result ≡ (bit_at word at == 1) }
+{
+    (word >> at) & 1 == 1
+}
+
 /// The word with one bit written.
 #[inline(always)]
 pub(crate) fn write_bit(word: u64, at: u32, one: bool) -> u64
@@ -18,6 +27,17 @@ pub(crate) fn write_bit(word: u64, at: u32, one: bool) -> u64
     }
 }
 
+/// The place of the lowest bit that is one.
+#[inline(always)]
+pub(crate) fn lowest_bit(word: u64) -> u32
+    requires { 0 < word }
+    ensures within { result < 64 }
+    ensures one { bit_at word result ≡ 1 }
+    ensures lowest { (k : ℕ) → k < result → bit_at word k ≡ 0 }
+{
+    word.trailing_zeros()
+}
+
 /// The place of the first bit from a place on that is one.
 #[inline(always)]
 pub(crate) fn first_bit(word: u64, from: u32) -> Option<u32>
@@ -30,5 +50,5 @@ pub(crate) fn first_bit(word: u64, from: u32) -> Option<u32>
     if rest == 0 {
         return None;
     }
-    Some(from + rest.trailing_zeros())
+    Some(from + lowest_bit(rest))
 }

@@ -53,12 +53,9 @@ impl TileState {
         requires can { IsSome (accept_row plan.now p.now self.old) }
         ensures row { accept_row plan.now p.now self.old ≡ Some self.new }
         ensures woken { Wakes result self.old.pool self.new.pool }
-        ensures more { self.old.dropped ≤ self.new.dropped }
-        ensures few { self.new.dropped ≤ self.old.dropped + 64 }
     {
-        let woken = match self.pass(plan, p.copy()) {
-            Ok(woken) => woken,
-            Err(_) => Mask::of(0),
+        let Ok(woken) = self.pass(plan, p.copy()) else {
+            return Mask::of(0);
         };
         self.node.arrive();
         woken

@@ -1,12 +1,13 @@
 //! The threads of a tile that can make a step, as a word of their places.
 
-ghost use Rattle.std.specs.Prelude.{◌≡◌, ◌<◌, ◌==◌, ◌^◌, ℕ};
+ghost use Rattle.std.specs.Prelude.{◌≡◌, ◌≤◌, ◌<◌, ℕ};
 ghost use Rattle.std.specs.Int.{bit_at};
+ghost use Rattle.tn_base.specs.Address.{tile_threads};
 ghost use Rattle.tn_tile.specs.Kept.{HasPlace, IsFit};
 ghost use Rattle.tn_tile.specs.Step.{can_step};
 ghost use Rattle.tn_tile.specs.Ready.{LooksAt, Marks};
 
-use crate::bits::write_bit;
+use crate::bits::{lowest_bit, write_bit};
 use crate::plan::Plan;
 use crate::state::TileState;
 use tn_base::mask::Mask;
@@ -20,7 +21,7 @@ pub(crate) fn look_at(ready: u64, state: &TileState, fuel: u32, places: Mask) ->
     let mut seen = ready;
     let mut rest = places;
     while rest.bits() != 0 {
-        let k = rest.bits().trailing_zeros();
+        let k = lowest_bit(rest.bits());
         rest = rest.without(k);
         seen = write_bit(seen, k, state.can_step(fuel, k));
     }
@@ -30,7 +31,8 @@ pub(crate) fn look_at(ready: u64, state: &TileState, fuel: u32, places: Mask) ->
 /// The word of a whole tile.
 pub(crate) fn all_ready(plan: &Plan, state: &TileState) -> u64
     requires { IsFit plan.now state.now }
-    ensures { Marks (λ k. can_step plan.now.shape.fuel k state.now) result }
+    ensures marks { Marks (λ k. can_step plan.now.shape.fuel k state.now) result }
+    ensures few { tile_threads plan.now.shape ≤ 64 }
 {
     let count = plan.shape().tile_threads();
     let fuel = plan.fuel();

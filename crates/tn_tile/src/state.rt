@@ -62,8 +62,7 @@ impl TileState {
         requires fits { IsFit plan.now self.old }
         requires few { most ≤ 64 }
         requires counts { self.old.dropped < 2 ^ 63 }
-        ensures steps { StepsUpTo plan.now place most result self.old self.new }
-        ensures fits { IsFit plan.now self.new }
+        ensures { StepsUpTo plan.now place most result self.old self.new }
     {
         let fuel = plan.fuel();
         let mut made = self.run_alone(plan, place, most);
@@ -82,7 +81,6 @@ impl TileState {
         ensures steps { steps_of plan.now place result self.old ≡ Some self.new }
         ensures few { result ≤ most }
         ensures count { self.new.dropped ≡ self.old.dropped }
-        ensures fits { IsFit plan.now self.new }
     {
         let fuel = plan.fuel();
         let thread = self.threads.get(place);
@@ -108,7 +106,6 @@ impl TileState {
         requires counts { self.old.dropped < 2 ^ 63 + 2 ^ 16 }
         ensures row { self.new ≡ stepped plan.now.code place self.old }
         ensures count { self.new.dropped ≤ self.old.dropped + 512 }
-        ensures fits { IsFit plan.now self.new }
     {
         let number = self.threads.get(place).sends();
         let sight = TileSight {

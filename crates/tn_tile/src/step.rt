@@ -7,7 +7,7 @@ ghost use Rattle.tn_tile.specs.Step.{can_step, step_at_place};
 ghost use Rattle.tn_tile.specs.Turns.{StepsUpTo, TurnIs};
 
 use crate::advance::advance;
-use crate::bits::write_bit;
+use crate::bits::{has_bit, write_bit};
 use crate::sight::TileSight;
 use crate::tile::Tile;
 use std::alloc::AllocError;
@@ -85,6 +85,6 @@ impl Tile {
         requires { place < tile_threads self.now.plan.shape }
         ensures { result ≡ can_step self.now.plan.shape.fuel place self.now.now }
     {
-        (self.ready >> place) & 1 == 1
+        has_bit(self.ready, place)
     }
 }

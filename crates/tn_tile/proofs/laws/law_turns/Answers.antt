@@ -7,6 +7,7 @@ use Rattle.tn_tile.proofs.Marked.{sends_none}
 use Rattle.tn_tile.proofs.Moved.{steps_fit}
 use Rattle.tn_tile.proofs.Packets.{set_back}
 use Rattle.tn_tile.proofs.Fresh.{fresh_shaped}
+use Rattle.tn_tile.proofs.Known.{departed_known}
 use Rattle.tn_tile.proofs.laws.law_turns.Goals as goal
 
 pub returns : goal.returns
