@@ -8,12 +8,12 @@ use Rattle.tn_base.specs.declared.port.Port.TheVariants as port
 use Rattle.tn_base.specs.declared.shape.ShapeNumbers.{ShapeNumbers}
 use Rattle.tn_base.specs.Address.{has_tile, in_tile, tile_threads}
 use Rattle.tn_base.specs.Message.{slot_bytes}
+use Rattle.tn_node.specs.PortRows.{no_values}
 use Rattle.tn_slots.proofs.Lists.{replicate_each}
 use Rattle.tn_thread.specs.declared.thread.Thread.{Thread}
 use Rattle.tn_thread.specs.Step.{slot_size}
-use Rattle.tn_tile.specs.Kept.{AreStarts, IsThread, StartsAt, WellShaped, fresh_tile}
+use Rattle.tn_tile.specs.Kept.{AreStarts, IsFit, IsThread, OutFits, StartsAt, WellShaped, fresh_tile}
 use Rattle.tn_tile.specs.Receivers.{dead_in, is_dead}
-use Rattle.tn_tile.specs.Rows.{buffer_at}
 use Rattle.tn_tile.specs.Step.{no_thread}
 use Rattle.tn_tile.proofs.Dead.{none_dead}
 use Rattle.tn_tile.proofs.Shaped.{FitsIn}
@@ -30,7 +30,7 @@ start_is n a t s =
       steps = let none : t.steps ≡ 0 = ap (λ (x : Thread). x.steps) s.start in omega arith;
     }
 
-nothing_waits : (n : ShapeNumbers) (way : Port) → FitsIn n (buffer_at way (record { east = None; west = None; south = None; north = None; up = None }))
+nothing_waits : (n : ShapeNumbers) → OutFits n no_values
 nothing_waits n port.East = tt
 nothing_waits n port.West = tt
 nothing_waits n port.South = tt
@@ -43,21 +43,18 @@ nothing_waits n port.Here = tt
 pub fresh_shaped : (n : ShapeNumbers) (tile : ℕ) (words : List ℕ) (threads : List Thread) → IsTrue (has_tile n tile) → AreStarts n tile threads → WellShaped (fresh_tile n tile words threads)
 fresh_shaped n tile words threads there starts = record {
   tile = there;
-  threads = starts.count;
-  pending = length-replicate (tile_threads n) None;
-  queues = length-replicate (tile_threads n) [];
-  slots = length-replicate n.slots _;
-  senders = length-replicate n.slots _;
-  slot_bytes = refl;
-  each = λ k h. start_is n (in_tile n tile k) (get_or threads k no_thread) (starts.each k h);
-  sent = replicate_each (FitsIn n) (tile_threads n) None None tt tt;
-  goes_on = nothing_waits n;
+  fits = record {
+    threads = record { count = starts.count; each = λ k h. start_is n (in_tile n tile k) (get_or threads k no_thread) (starts.each k h) };
+    pool = record { queues = length-replicate (tile_threads n) []; slots = length-replicate n.slots _; slot_bytes = refl; senders = length-replicate n.slots _ };
+    pending = record { count = length-replicate (tile_threads n) None; each = replicate_each (FitsIn n) (tile_threads n) None None tt tt };
+    out = nothing_waits n;
+  };
 }
 
-pub none_ended : (n : ShapeNumbers) (tile : ℕ) (threads : List Thread) → AreStarts n tile threads → 0 ≡ dead_in threads
+pub none_ended : (n : ShapeNumbers) (tile : ℕ) (threads : List Thread) → AreStarts n tile threads → dead_in threads ≡ 0
 none_ended n tile threads starts =
     let count : length threads ≡ tile_threads n = starts.count in
-    sym (none_dead threads (λ k h. ap (λ (x : Thread). is_dead x.state) (starts.each k (rw (← count) h)).start))
+    none_dead threads (λ k h. ap (λ (x : Thread). is_dead x.state) (starts.each k (rw (← count) h)).start)
 
 -- one thread more at its start
 pub starts_more : (n : ShapeNumbers) (tile k : ℕ) (ts : List Thread) (t : Thread) → length ts ≡ k → ((j : ℕ) → j < k → StartsAt n (in_tile n tile j) (get_or ts j no_thread)) → StartsAt n (in_tile n tile k) t

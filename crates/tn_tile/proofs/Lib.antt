@@ -1,12 +1,15 @@
 pub mod Dead
+pub mod Elsewhere
 pub mod Ends
-pub mod Shaped
-pub mod Steps
-pub mod Made
-pub mod Turns
+pub mod Marked
+pub mod Moved
 pub mod Packed
 pub mod Packets
-pub mod Fresh
-mod Fields
 pub mod Runs
+pub mod Shaped
+pub mod Fresh
+pub mod Known
+pub mod Made
+pub mod Steps
 pub mod Turned
+pub mod Turns

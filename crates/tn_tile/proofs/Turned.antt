@@ -1,10 +1,9 @@
 -- What steps that ask nothing of the tile make of it: they are steps of the thread at its place.
-use Rattle.std.proofs.Common.{ℕ, ◌≡◌, ◌≤◌, ◌<◌, ◌+◌, ◌/◌, suc, zero, List, [], ◌∷◌, Bool, true, length, set, refl, sym, ap, subst, ◌∙◌, arith, Option, Some, None, option_and_then, option_map, slice_get}
+use Rattle.std.proofs.Common.{ℕ, ◌≡◌, ◌≤◌, ◌<◌, ◌+◌, ◌/◌, suc, zero, List, [], ◌∷◌, Bool, true, length, get_or, set, refl, sym, ap, subst, ◌∙◌, arith, Option, Some, None, option_and_then, option_map, slice_get}
 use Rattle.std.proofs.lemmas.Bool.{lt-ltb}
 use Rattle.std.proofs.lemmas.List.{get_or-set_same, length-set, set-get_or}
 use Rattle.rv_isa.specs.declared.instr.Instr.{Instr}
 use Rattle.rv_exec.specs.Exec.{regs_after, step_at}
-use Rattle.tn_base.specs.declared.message.Packet.{Packet}
 use Rattle.tn_base.specs.Address.{in_tile, tile_threads}
 use Rattle.tn_thread.specs.declared.state.ThreadState.{ThreadState}
 use Rattle.tn_thread.specs.declared.state.ThreadState.TheVariants as state
@@ -14,16 +13,14 @@ use Rattle.tn_thread.specs.Sight.{Sight}
 use Rattle.tn_thread.specs.Step.{Stepped, runnable, turned}
 use Rattle.tn_thread.proofs.AloneSteps.{Stays, alone_is, caught, stays_self, stays_more}
 use Rattle.tn_thread.proofs.Fits.{turned_runs}
-use Rattle.tn_tile.specs.Alone.{alone_at, alone_steps, next_alone, went_alone}
-use Rattle.tn_tile.specs.Kept.{IsThread, WellShaped}
+use Rattle.tn_tile.specs.Alone.{RanAlone, alone_at, alone_steps, next_alone, went_alone}
+use Rattle.tn_tile.specs.Kept.{IsFit, IsThread}
 use Rattle.tn_tile.specs.Receivers.{dead_in, is_dead}
 use Rattle.tn_tile.specs.Step.{Fetched, acted, can_step, fetched_at, fetched_by, next_step, no_thread, sight_at, step_at_place, stepped, steps_of, thread_at, with_thread}
-use Rattle.tn_tile.specs.TileView.{TileView}
+use Rattle.tn_tile.specs.TileView.{TilePlan, TileState}
+use Rattle.tn_tile.specs.Words.{KnowsDead}
 use Rattle.tn_tile.proofs.Dead.{dead_kept}
-use Rattle.tn_tile.proofs.Made.{Reads, seen_by, seen_is, thread_is}
 use Rattle.tn_tile.proofs.Runs.{at_stays}
-use Rattle.tn_tile.proofs.Shaped.{thread_shaped}
-use Rattle.tn_tile.proofs.Steps.{taken}
 
 set_twice : {X : Type 0} (xs : List X) (k : ℕ) (x y : X) → set (set xs k x) k y ≡ set xs k y
 set_twice [] k x y = refl
@@ -73,39 +70,39 @@ next_is code seen m g h e run =
     ∙ at_is (slice_get code (g.pc / 4)) seen m g.pc g.thread h e run
 
 -- a step that asks nothing changes the thread alone
-stepped_is : (v : TileView) (k m : ℕ) (g h : Going) → thread_at v k ≡ caught_up m g.pc g.thread → g.thread.state ≡ state.Run → next_alone v.code (sight_at v k) g ≡ Some h → stepped k v ≡ with_thread k (caught_up (suc m) h.pc h.thread) v
-stepped_is v k m g h there run e =
-    let step : step_at_place k v ≡ caught m h = ap (next_step v.code (sight_at v k)) there ∙ next_is v.code (sight_at v k) m g h e run in
-    ap (λ (s : Stepped). acted k (thread_at v k) s.op (with_thread k s.thread v)) step
+stepped_is : (code : List (Option Instr)) (s : TileState) (k m : ℕ) (g h : Going) → thread_at s k ≡ caught_up m g.pc g.thread → g.thread.state ≡ state.Run → next_alone code (sight_at s k) g ≡ Some h → stepped code k s ≡ with_thread k (caught_up (suc m) h.pc h.thread) s
+stepped_is code s k m g h there run e =
+    let step : step_at_place code k s ≡ caught m h = ap (next_step code (sight_at s k)) there ∙ next_is code (sight_at s k) m g h e run in
+    ap (λ (x : Stepped). acted k (thread_at s k) x.op (with_thread k x.thread s)) step
 
-can_is : (v : TileView) (k m n : ℕ) (g : Going) → thread_at v k ≡ caught_up m g.pc g.thread → g.thread.state ≡ state.Run → g.thread.steps + m + suc n ≤ v.shape.fuel → can_step k v ≡ true
-can_is v k m n g there run few =
-    let runs : (thread_at v k).state ≡ state.Run = ap (λ (t : Thread). t.state) there ∙ run in
-    let count : (thread_at v k).steps ≡ g.thread.steps + m = ap (λ (t : Thread). t.steps) there in
-    rw (run_can (thread_at v k).state (sight_at v k) runs) (lt-ltb (thread_at v k).steps v.shape.fuel (omega arith))
+can_is : (fuel : ℕ) (s : TileState) (k m n : ℕ) (g : Going) → thread_at s k ≡ caught_up m g.pc g.thread → g.thread.state ≡ state.Run → g.thread.steps + m + suc n ≤ fuel → can_step fuel k s ≡ true
+can_is fuel s k m n g there run few =
+    let runs : (thread_at s k).state ≡ state.Run = ap (λ (t : Thread). t.state) there ∙ run in
+    let count : (thread_at s k).steps ≡ g.thread.steps + m = ap (λ (t : Thread). t.steps) there in
+    rw (run_can (thread_at s k).state (sight_at s k) runs) (lt-ltb (thread_at s k).steps fuel (omega arith))
 
-pub steps_from : (n m k : ℕ) (v : TileView) (g h : Going) → k < length v.threads → thread_at v k ≡ caught_up m g.pc g.thread → g.thread.state ≡ state.Run → g.thread.steps + m + n ≤ v.shape.fuel → alone_steps n v.code (sight_at v k) g ≡ Some h → steps_of k n v ≡ Some (with_thread k (caught_up (m + n) h.pc h.thread) v)
+steps_from : (n m k : ℕ) (plan : TilePlan) (s : TileState) (g h : Going) → k < length s.threads → thread_at s k ≡ caught_up m g.pc g.thread → g.thread.state ≡ state.Run → g.thread.steps + m + n ≤ plan.shape.fuel → alone_steps n plan.code (sight_at s k) g ≡ Some h → steps_of plan k n s ≡ Some (with_thread k (caught_up (m + n) h.pc h.thread) s)
 unfolding steps_of alone_steps
-steps_from zero m k v g h within there run few e =
+steps_from zero m k plan s g h within there run few e =
     let same : g ≡ h = cc e in
     let count : m ≡ m + 0 = omega arith in
-    let thread : thread_at v k ≡ caught_up (m + 0) h.pc h.thread = there ∙ (ap (λ (x : Going). caught_up m x.pc x.thread) same ∙ ap (λ i. caught_up i h.pc h.thread) count) in
-    let kept : v.threads ≡ set v.threads k (caught_up (m + 0) h.pc h.thread) = sym (set-get_or v.threads k no_thread) ∙ ap (λ t. set v.threads k t) thread in
-    ap (λ ts. Some (record v { threads = ts })) kept
-steps_from (suc n) m k v g h within there run few e =
-    let first = and_then_some (alone_steps n v.code (sight_at v k)) (next_alone v.code (sight_at v k) g) h e in
+    let thread : thread_at s k ≡ caught_up (m + 0) h.pc h.thread = there ∙ (ap (λ (x : Going). caught_up m x.pc x.thread) same ∙ ap (λ i. caught_up i h.pc h.thread) count) in
+    let kept : s.threads ≡ set s.threads k (caught_up (m + 0) h.pc h.thread) = sym (set-get_or s.threads k no_thread) ∙ ap (λ t. set s.threads k t) thread in
+    ap (λ ts. Some (record s { threads = ts })) kept
+steps_from (suc n) m k plan s g h within there run few e =
+    let first = and_then_some (alone_steps n plan.code (sight_at s k)) (next_alone plan.code (sight_at s k) g) h e in
     let j = first.0 in
     let u : Thread = caught_up (suc m) j.pc j.thread in
-    let w : TileView = with_thread k u v in
-    let stays : Stays g.thread j.thread = at_stays (slice_get v.code (g.pc / 4)) (sight_at v k) g.pc g.thread j first.1 in
+    let w : TileState = with_thread k u s in
+    let stays : Stays g.thread j.thread = at_stays (slice_get plan.code (g.pc / 4)) (sight_at s k) g.pc g.thread j first.1 in
     let counts = stays.steps in
-    let rest : steps_of k n w ≡ Some (with_thread k (caught_up (suc m + n) h.pc h.thread) w) = steps_from n (suc m) k w j h (rw (length-set v.threads k u) within) (get_or-set_same v.threads k u no_thread within) (stays.state ∙ run) (omega arith) first.2 in
+    let rest : steps_of plan k n w ≡ Some (with_thread k (caught_up (suc m + n) h.pc h.thread) w) = steps_from n (suc m) k plan w j h (rw (length-set s.threads k u) within) (get_or-set_same s.threads k u no_thread within) (stays.state ∙ run) (omega arith) first.2 in
     let count : suc m + n ≡ m + suc n = omega arith in
-    let last : with_thread k (caught_up (suc m + n) h.pc h.thread) w ≡ with_thread k (caught_up (m + suc n) h.pc h.thread) v
-    = ap (λ ts. record v { threads = ts }) (set_twice v.threads k u (caught_up (suc m + n) h.pc h.thread) ∙ ap (λ i. set v.threads k (caught_up i h.pc h.thread)) count) in
-    let one : steps_of k n (stepped k v) ≡ Some (with_thread k (caught_up (m + suc n) h.pc h.thread) v)
-    = ap (λ x. steps_of k n x) (stepped_is v k m g j there run first.1) ∙ rest ∙ ap (λ (x : TileView). Some x) last in
-    rw (can_is v k m n g there run few) one
+    let last : with_thread k (caught_up (suc m + n) h.pc h.thread) w ≡ with_thread k (caught_up (m + suc n) h.pc h.thread) s
+    = ap (λ ts. record s { threads = ts }) (set_twice s.threads k u (caught_up (suc m + n) h.pc h.thread) ∙ ap (λ i. set s.threads k (caught_up i h.pc h.thread)) count) in
+    let one : steps_of plan k n (stepped plan.code k s) ≡ Some (with_thread k (caught_up (m + suc n) h.pc h.thread) s)
+    = ap (λ x. steps_of plan k n x) (stepped_is plan.code s k m g j there run first.1) ∙ rest ∙ ap (λ (x : TileState). Some x) last in
+    rw (can_is plan.shape.fuel s k m n g there run few) one
 
 steps_stay : (n : ℕ) (code : List (Option Instr)) (seen : Sight) (g h : Going) → alone_steps n code seen g ≡ Some h → Stays g.thread h.thread
 unfolding alone_steps
@@ -118,51 +115,23 @@ steps_stay (suc n) code seen g h e =
 caught_none : (t : Thread) → t ≡ caught_up 0 t.pc t
 caught_none t = let count : t.steps ≡ t.steps + 0 = omega arith in ap (λ s. record t { steps = s }) count
 
--- what the loop leaves
-pub record RunsTo (v : TileView) (k n dead : ℕ) (new : Thread) : Type 0 where
-  pub steps : steps_of k n v ≡ Some (with_thread k new v)
-  pub shaped : WellShaped (with_thread k new v)
-  pub alive : dead ≡ dead_in (set v.threads k new)
-
-pub runs_to : (v : TileView) (k n dead : ℕ) (p : Option Packet) (b : Bool) (code : List (Option Instr)) (old new : Thread) → k < tile_threads v.shape → WellShaped v × (dead ≡ dead_in v.threads) → Reads v k p b old → code ≡ v.code → old.state ≡ state.Run → old.steps + n ≤ v.shape.fuel
-    → went_alone n code (seen_by v k b) old ≡ Some new → RunsTo v k n dead new
-runs_to v k n dead p b code old new h inv reads code_is run few e =
-    let w = inv.0 in
-    let within : k < length v.threads = rw w.threads h in
-    let seen : seen_by v k b ≡ sight_at v k = seen_is v k p b old (rw w.pending h) reads in
-    let same : old ≡ thread_at v k = thread_is v k p b old within reads in
-    let went = map_some (λ (g : Going). caught_up n g.pc g.thread) (alone_steps n code (seen_by v k b) (record { pc = old.pc; thread = old })) new e in
+-- steps that ask nothing are steps
+pub ran_alone : (plan : TilePlan) (s : TileState) (k n : ℕ) (threads : List Thread) → k < length s.threads → (thread_at s k).state ≡ state.Run → (thread_at s k).steps + n ≤ plan.shape.fuel → RanAlone k n plan.code (sight_at s k) s.threads threads → steps_of plan k n s ≡ Some (record s { threads = threads })
+ran_alone plan s k n threads within run few r =
+    let old = thread_at s k in
+    let went = map_some (λ (g : Going). caught_up n g.pc g.thread) (alone_steps n plan.code (sight_at s k) (record { pc = old.pc; thread = old })) r.thread r.went in
     let g = went.0 in
-    let steps : alone_steps n v.code (sight_at v k) (record { pc = old.pc; thread = old }) ≡ Some g = subst (λ c. alone_steps n c (sight_at v k) (record { pc = old.pc; thread = old }) ≡ Some g) code_is (subst (λ s. alone_steps n code s (record { pc = old.pc; thread = old }) ≡ Some g) seen went.1) in
-    let stays : Stays old g.thread = steps_stay n v.code (sight_at v k) (record { pc = old.pc; thread = old }) g steps in
-    let keeps = stays.keeps in
-    let counts = stays.steps in
-    let is : IsThread v.shape (in_tile v.shape v.tile k) old = rw same (w.each k h) in
-    let new_is : IsThread v.shape (in_tile v.shape v.tile k) (caught_up n g.pc g.thread) = record {
-      id = keeps.id ∙ is.id;
-      shape = keeps.shape ∙ is.shape;
-      mem = keeps.mem ∙ is.mem;
-      out = keeps.out ∙ is.out;
-      steps = omega arith;
-    } in
     let sum : 0 + n ≡ n = omega arith in
-    let all : steps_of k n v ≡ Some (with_thread k (caught_up n g.pc g.thread) v)
-    = steps_from n 0 k v (record { pc = old.pc; thread = old }) g within (sym same ∙ caught_none old) run (omega arith) steps ∙ ap (λ i. Some (with_thread k (caught_up i g.pc g.thread) v)) sum in
-    let alive : is_dead g.thread.state ≡ is_dead (thread_at v k).state = ap is_dead (stays.state ∙ ap (λ (t : Thread). t.state) same) in
-    subst (λ t. RunsTo v k n dead t) (sym went.2) (record {
-      steps = all;
-      shaped = thread_shaped v k (caught_up n g.pc g.thread) h new_is w;
-      alive = inv.1 ∙ sym (dead_kept v.threads k (caught_up n g.pc g.thread) alive);
-    })
+    let thread : caught_up (0 + n) g.pc g.thread ≡ r.thread = ap (λ i. caught_up i g.pc g.thread) sum ∙ sym went.2 in
+    steps_from n 0 k plan s (record { pc = old.pc; thread = old }) g within (caught_none old) run (omega arith) went.1
+    ∙ ap (λ t. Some (with_thread k t s)) thread
+    ∙ ap (λ ts. Some (record s { threads = ts })) (sym r.put)
 
--- steps after steps
-pub steps_join : (n m k : ℕ) (u v w : TileView) → steps_of k n u ≡ Some v → steps_of k m v ≡ Some w → steps_of k (n + m) u ≡ Some w
-unfolding steps_of
-steps_join zero m k u v w e f =
-    let same : v ≡ u = cc e in
-    let count : 0 + m ≡ m = omega arith in
-    ap (λ i. steps_of k i u) count ∙ subst (λ (x : TileView). steps_of k m x ≡ Some w) same f
-steps_join (suc n) m k u v w e f =
-    let first = taken (can_step k u) (steps_of k n (stepped k u)) v e in
-    let count : suc (n + m) ≡ suc n + m = omega arith in
-    ap (λ i. steps_of k i u) (sym count) ∙ rw first.0 (steps_join n m k (stepped k u) v w first.1 f)
+-- such steps end no thread
+pub alone_dead : (threads : List Thread) (k n dead : ℕ) (code : List (Option Instr)) (seen : Sight) (new : Thread) → KnowsDead threads dead → went_alone n code seen (get_or threads k no_thread) ≡ Some new → KnowsDead (set threads k new) dead
+alone_dead threads k n dead code seen new w e =
+    let old = get_or threads k no_thread in
+    let went = map_some (λ (g : Going). caught_up n g.pc g.thread) (alone_steps n code seen (record { pc = old.pc; thread = old })) new e in
+    let stays : Stays old went.0.thread = steps_stay n code seen (record { pc = old.pc; thread = old }) went.0 went.1 in
+    let same : is_dead new.state ≡ is_dead old.state = ap (λ (t : Thread). is_dead t.state) went.2 ∙ ap is_dead stays.state in
+    record { few = rw length-set w.few; dead = w.dead ∙ sym (dead_kept threads k new same) }

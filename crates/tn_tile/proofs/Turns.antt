@@ -1,11 +1,11 @@
 -- Turns: the longest one, and none.
-use Rattle.std.proofs.Common.{◌≡◌, ℕ, ◌+◌, ◌-◌, ◌<◌, ◌≤◌, ◌&&◌, zero, suc, Bool, true, false, cond, Some, None, is_some, refl, ap, ◌∙◌, arith, inl, inr, leb}
+use Rattle.std.proofs.Common.{◌≡◌, ℕ, ◌+◌, ◌-◌, ◌<◌, ◌≤◌, ◌&&◌, zero, suc, Bool, true, false, cond, Some, None, is_some, refl, sym, ap, ◌∙◌, arith, inl, inr, leb, option_map}
 use Rattle.std.specs.declared.option.Option.{Option}
 use Rattle.std.proofs.lemmas.Bool.{and_left, and_parts, and_right, cases_lt, cond-false, le-leb, leb-true, lt-leb}
 use Rattle.tn_base.specs.Address.{place_in_tile}
 use Rattle.tn_tile.specs.Rows.{can_count, is_here, turn_row}
 use Rattle.tn_tile.specs.Step.{can_step, stepped, steps_of}
-use Rattle.tn_tile.specs.TileView.{TileView}
+use Rattle.tn_tile.specs.TileView.{TilePlan, TileState, TileView, now_by, with_now}
 use Rattle.tn_tile.specs.Turns.{StepsUpTo}
 use Rattle.tn_tile.proofs.Steps.{steps_fewer, steps_none, steps_stop, taken}
 
@@ -17,63 +17,81 @@ none_either : {X : Type 0} (b : Bool) (o : Option X) → o ≡ None → cond b o
 none_either true o e = e
 none_either false o e = refl
 
--- a turn of so many steps, each of which can be made
-pub turn_is : (a n : ℕ) (v w : TileView) → is_here a v ≡ true → can_count v ≡ true → 1 ≤ n → n ≤ v.shape.turn → steps_of (place_in_tile v.shape a) n v ≡ Some w → turn_row a n v ≡ Some w
-turn_is a n v w here counts low high steps = rw (here, counts, le-leb 1 n low, le-leb n v.shape.turn high) steps
+-- a turn of n steps, each of which can be made
+pub turn_is : (plan : TilePlan) (a n : ℕ) (s t : TileState) → is_here plan a ≡ true → can_count s ≡ true → 1 ≤ n → n ≤ plan.shape.turn → steps_of plan (place_in_tile plan.shape a) n s ≡ Some t → turn_row plan a n s ≡ Some t
+turn_is plan a n s t here counts low high steps = rw (here, counts, le-leb 1 n low, le-leb n plan.shape.turn high) steps
 
 -- no turn of no step, and none of more than the machine's number
-pub turn_zero : (a : ℕ) (v : TileView) → turn_row a 0 v ≡ None
-turn_zero a v = cond-false _ _ _ (and_left _ _ (and_left _ _ (and_right (is_here a v) _ refl)))
+turn_zero : (plan : TilePlan) (a : ℕ) (s : TileState) → turn_row plan a 0 s ≡ None
+turn_zero plan a s = cond-false _ _ _ (and_left _ _ (and_left _ _ (and_right (is_here plan a) _ refl)))
 
-pub turn_long : (a m : ℕ) (v : TileView) → v.shape.turn < m → turn_row a m v ≡ None
-turn_long a m v h = cond-false _ _ _ (and_left _ _ (and_right (is_here a v && leb 1 m) _ (lt-leb m v.shape.turn h)))
+turn_long : (plan : TilePlan) (a m : ℕ) (s : TileState) → plan.shape.turn < m → turn_row plan a m s ≡ None
+turn_long plan a m s h = cond-false _ _ _ (and_left _ _ (and_right (is_here plan a && leb 1 m) _ (lt-leb m plan.shape.turn h)))
 
--- where letters cannot be counted, there is no turn
-pub turn_full : (a m : ℕ) (v : TileView) → can_count v ≡ false → turn_row a m v ≡ None
-turn_full a m v full = cond-false _ _ _ (and_right (is_here a v && leb 1 m && leb m v.shape.turn) _ full)
+-- if letters cannot be counted, there is no turn
+pub turn_full : (plan : TilePlan) (a m : ℕ) (s : TileState) → can_count s ≡ false → turn_row plan a m s ≡ None
+turn_full plan a m s full = cond-false _ _ _ (and_right (is_here plan a && leb 1 m && leb m plan.shape.turn) _ full)
 
 -- a turn of more steps than the thread can make
-pub turn_past : (a n m : ℕ) (v w : TileView) → StepsUpTo (place_in_tile v.shape a) v.shape.turn n v w → n < m → turn_row a m v ≡ None
-turn_past a n m v w made h =
-    elim (cases_lt n v.shape.turn) [
-      | inl early ↦ none_either _ _ (steps_stop (place_in_tile v.shape a) n m v w made.steps (made.stops early) h)
-      | inr late ↦ turn_long a m v (omega arith)
+pub turn_past : (plan : TilePlan) (a n m : ℕ) (s t : TileState) → StepsUpTo plan (place_in_tile plan.shape a) plan.shape.turn n s t → n < m → turn_row plan a m s ≡ None
+turn_past plan a n m s t made h =
+    elim (cases_lt n plan.shape.turn) [
+      | inl early ↦ none_either _ _ (steps_stop plan (place_in_tile plan.shape a) n m s t made.steps (made.stops early) h)
+      | inr late ↦ turn_long plan a m s (omega arith)
     ]
 
 -- a thread that can make no step has no turn
-pub no_turn : (a m n : ℕ) (v w : TileView) → n ≡ 0 → StepsUpTo (place_in_tile v.shape a) v.shape.turn n v w → turn_row a m v ≡ None
-no_turn a zero n v w e made = turn_zero a v
-no_turn a (suc m) n v w e made = turn_past a n (suc m) v w made (omega arith)
+pub no_turn : (plan : TilePlan) (a m n : ℕ) (s t : TileState) → n ≡ 0 → StepsUpTo plan (place_in_tile plan.shape a) plan.shape.turn n s t → turn_row plan a m s ≡ None
+no_turn plan a zero n s t e made = turn_zero plan a s
+no_turn plan a (suc m) n s t e made = turn_past plan a n (suc m) s t made (omega arith)
 
-pub same_tile : (k n most : ℕ) (v w : TileView) → n ≡ 0 → StepsUpTo k most n v w → w ≡ v
-same_tile k n most v w e made =
-    let none : steps_of k 0 v ≡ Some w = rw e at made.steps in
-    let self : steps_of k 0 v ≡ Some v = steps_none k v in
-    cc
+pub same_tile : (v w : TileView) (k n most : ℕ) → n ≡ 0 → w.plan ≡ v.plan → StepsUpTo v.plan k most n v.now w.now → w ≡ v
+same_tile v w k n most e plan made =
+    let none : steps_of v.plan k 0 v.now ≡ Some w.now = rw e at made.steps in
+    let self : steps_of v.plan k 0 v.now ≡ Some v.now = steps_none v.plan k v.now in
+    let now : w.now ≡ v.now = cc (none, self) in
+    λ i. record { plan = plan i; now = now i }
 
--- a thread can make a turn exactly where it can make a step
-one_step : (k : ℕ) (v : TileView) → is_some (steps_of k 1 v) ≡ can_step k v
+-- a row of the state is a row of the tile
+pub now_is : (v w : TileView) (o : Option TileState) → w.plan ≡ v.plan → o ≡ Some w.now → now_by v o ≡ Some w
+now_is v w o plan e = ap (λ x. now_by v x) e ∙ ap (λ p. let x : TileView = record { plan = p; now = w.now } in Some x) (sym plan)
+
+-- a thread can make a turn if it can make a step, and only then
+one_step : (plan : TilePlan) (k : ℕ) (s : TileState) → is_some (steps_of plan k 1 s) ≡ can_step plan.shape.fuel k s
 unfolding steps_of
-one_step k v = cond_some (can_step k v) (stepped k v)
+one_step plan k s = cond_some (can_step plan.shape.fuel k s) (stepped plan.code k s)
 
-pub one_turn : (a : ℕ) (v : TileView) → is_here a v ≡ true → can_count v ≡ true → 1 ≤ v.shape.turn → is_some (turn_row a 1 v) ≡ can_step (place_in_tile v.shape a) v
-one_turn a v here counts turn = rw (here, counts, le-leb 1 v.shape.turn turn) (one_step (place_in_tile v.shape a) v)
+pub one_turn : (plan : TilePlan) (a : ℕ) (s : TileState) → is_here plan a ≡ true → can_count s ≡ true → 1 ≤ plan.shape.turn → is_some (turn_row plan a 1 s) ≡ can_step plan.shape.fuel (place_in_tile plan.shape a) s
+one_turn plan a s here counts turn = rw (here, counts, le-leb 1 plan.shape.turn turn) (one_step plan (place_in_tile plan.shape a) s)
 
 some_is : {X : Type 0} (o : Option X) → is_some o ≡ true → (x : X) × (o ≡ Some x)
 some_is None e = cc e
 some_is (Some x) e = (x, refl)
 
--- where a turn is possible, each shorter one is
-pub shorter_turn : (a n m : ℕ) (v : TileView) → is_some (turn_row a n v) ≡ true → 1 ≤ m → m ≤ n → is_some (turn_row a m v) ≡ true
-shorter_turn a n m v some low high =
-    let k = place_in_tile v.shape a in
-    let whole = some_is (turn_row a n v) some in
-    let parts = taken (is_here a v && leb 1 n && leb n v.shape.turn && can_count v) (steps_of k n v) whole.0 whole.1 in
-    let tests = and_parts (is_here a v && leb 1 n && leb n v.shape.turn) (can_count v) parts.0 in
-    let most = and_parts (is_here a v && leb 1 n) (leb n v.shape.turn) tests.0 in
-    let here = and_parts (is_here a v) (leb 1 n) most.0 in
-    let within : n ≤ v.shape.turn = leb-true n v.shape.turn most.1 in
+-- what the tests of a turn tell
+pub record TurnTests (plan : TilePlan) (a n : ℕ) (s t : TileState) : Type 0 where
+  pub here : is_here plan a ≡ true
+  pub low : 1 ≤ n
+  pub high : n ≤ plan.shape.turn
+  pub counts : can_count s ≡ true
+  pub steps : steps_of plan (place_in_tile plan.shape a) n s ≡ Some t
+
+pub turn_tests : (plan : TilePlan) (a n : ℕ) (s t : TileState) → turn_row plan a n s ≡ Some t → TurnTests plan a n s t
+turn_tests plan a n s t e =
+    let parts = taken (is_here plan a && leb 1 n && leb n plan.shape.turn && can_count s) (steps_of plan (place_in_tile plan.shape a) n s) t e in
+    let tests = and_parts (is_here plan a && leb 1 n && leb n plan.shape.turn) (can_count s) parts.0 in
+    let most = and_parts (is_here plan a && leb 1 n) (leb n plan.shape.turn) tests.0 in
+    let here = and_parts (is_here plan a) (leb 1 n) most.0 in
+    record { here = here.0; low = leb-true 1 n here.1; high = leb-true n plan.shape.turn most.1; counts = tests.1; steps = parts.1 }
+
+-- if a turn is possible, each shorter one is
+pub shorter_turn : (plan : TilePlan) (a n m : ℕ) (s : TileState) → is_some (turn_row plan a n s) ≡ true → 1 ≤ m → m ≤ n → is_some (turn_row plan a m s) ≡ true
+shorter_turn plan a n m s some low high =
+    let k = place_in_tile plan.shape a in
+    let whole = some_is (turn_row plan a n s) some in
+    let t = turn_tests plan a n s whole.0 whole.1 in
+    let within = t.high in
     let count : (n - m) + m ≡ n = omega arith in
-    let steps : steps_of k ((n - m) + m) v ≡ Some whole.0 = ap (λ i. steps_of k i v) count ∙ parts.1 in
-    let fewer = steps_fewer k m (n - m) v whole.0 steps in
-    ap is_some (turn_is a m v fewer.0 here.0 tests.1 low (omega arith) fewer.1)
+    let steps : steps_of plan k ((n - m) + m) s ≡ Some whole.0 = ap (λ i. steps_of plan k i s) count ∙ t.steps in
+    let fewer = steps_fewer plan k m (n - m) s whole.0 steps in
+    ap is_some (turn_is plan a m s fewer.0 t.here t.counts low (omega arith) fewer.1)

@@ -7,7 +7,9 @@ use Rattle.tn_base.specs.declared.port.Port.TheVariants as port
 use Rattle.tn_base.specs.declared.shape.ShapeNumbers.{ShapeNumbers}
 use Rattle.tn_base.specs.Address.{has_tile, in_tile, tile_threads}
 use Rattle.tn_base.specs.Message.{has_packet, slot_bytes}
-use Rattle.tn_slots.specs.Pool.{fresh}
+use Rattle.tn_base.specs.declared.op.Op.{Op}
+use Rattle.tn_base.specs.declared.op.Op.TheVariants as op
+use Rattle.tn_slots.specs.Pool.{Holds, fresh}
 use Rattle.tn_thread.specs.declared.thread.Thread.{Thread}
 use Rattle.tn_thread.specs.Step.{slot_size, started}
 use Rattle.tn_node.specs.declared.ports.Ports.{Ports}
@@ -36,11 +38,11 @@ pub record ThreadsFit (n : ShapeNumbers) (tile : ℕ) (threads : List Thread) : 
   pub each : (k : ℕ) → k < tile_threads n → IsThread n (in_tile n tile k) (slice_index_or threads k no_thread)
 
 -- the pool has the machine's slots for the tile's threads, and each slot has a sender
-pub record PoolFits (n : ShapeNumbers) (pool : PoolModel) (senders : List Sender) : Type 0 where
+pub record PoolFits (n : ShapeNumbers) (pool : PoolModel) (origins : List Sender) : Type 0 where
   pub queues : length pool.queues ≡ tile_threads n
   pub slots : length pool.slots ≡ n.slots
   pub slot_bytes : pool.slot_bytes ≡ slot_bytes n
-  pub sender_count : length senders ≡ n.slots
+  pub senders : length origins ≡ n.slots
 
 -- what is pending are packets of the machine, one place for each thread
 pub record PendingFits (n : ShapeNumbers) (pending : List (Option Packet)) : Type 0 where
@@ -71,6 +73,22 @@ pub record IsFit (plan : TilePlan) (s : TileState) : Type 0 where
 pub record WellShaped (v : TileView) : Type 0 where
   pub tile : IsTrue (has_tile v.plan.shape v.plan.tile)
   pub fits : IsFit v.plan v.now
+
+-- a place has a thread, a packet or none, and a queue
+pub record HasPlace (k : ℕ) (s : TileState) : Type 0 where
+  pub thread : k < length s.threads
+  pub pending : k < length s.pending
+  pub queue : k < length s.pool.queues
+
+-- a thread gives up only a slot that it holds
+abbrev pub MayAct : ℕ → Op → PoolModel → Type 0
+MayAct k op.None p = ⊤
+MayAct k (op.Send to bytes) p = ⊤
+MayAct k op.Hand p = ⊤
+MayAct k (op.Free slot) p = Holds p k slot
+MayAct k (op.Idle vote) p = ⊤
+MayAct k (op.Kill value) p = ⊤
+MayAct k (op.Trap why) p = ⊤
 
 -- a thread at its start, for this place of the machine
 pub record StartsAt (n : ShapeNumbers) (a : ℕ) (t : Thread) : Type 0 where

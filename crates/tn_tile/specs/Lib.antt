@@ -1,5 +1,8 @@
 pub mod Alone
+pub mod Inside
 pub mod Kept
+pub mod Passes
+pub mod Ready
 pub mod Receivers
 pub mod Rows
 pub mod Same
@@ -7,3 +10,4 @@ pub mod Still
 pub mod Step
 pub mod TileView
 pub mod Turns
+pub mod Words

@@ -1,13 +1,9 @@
+-- What a tile is: a plan, which no event changes, and a state. The state is that of the code: lists of threads, of
+-- senders and of pending packets, the pool, the node, a count and the first trap.
 use Rattle.std.specs.Prelude.{ℕ, List, Option, option_map}
 use Rattle.rv_isa.specs.declared.instr.Instr.{Instr}
-use Rattle.tn_base.specs.declared.event.Trap.{Trap}
-use Rattle.tn_base.specs.declared.ids.ThreadId.{ThreadId}
-use Rattle.tn_base.specs.declared.message.Packet.{Packet}
 use Rattle.tn_base.specs.declared.shape.ShapeNumbers.{ShapeNumbers}
-use Rattle.tn_node.specs.declared.node.Node.{Node}
-use Rattle.tn_slots.specs.PoolModel.{PoolModel}
-use Rattle.tn_thread.specs.declared.thread.Thread.{Thread}
-use Rattle.tn_tile.specs.declared.sender.Sender.{Sender}
+pub use Rattle.tn_tile.specs.declared.state.TileState.{TileState}
 
 -- what no event changes
 pub record TilePlan : Type 0 where
@@ -16,22 +12,6 @@ pub record TilePlan : Type 0 where
   pub tile : ℕ
   -- for each word of the code the instruction that it is, if it is an instruction
   pub code : List (Option Instr)
-
--- what events change
-pub record TileState : Type 0 where
-  -- the threads by ascending address
-  pub threads : List Thread
-  pub pool : PoolModel
-  -- for each slot whose packet was put there last
-  pub senders : List Sender
-  -- for each thread the packet that it sent and that is not delivered yet
-  pub pending : List (Option Packet)
-  -- the packets that go on to other parts, and what the detector asks of the tile
-  pub node : Node
-  -- how many letters were dropped here since their receivers were dead
-  pub dropped : ℕ
-  -- the first thread that trapped, and how
-  pub ended : Option (ThreadId × Trap)
 
 pub record TileView : Type 0 where
   pub plan : TilePlan

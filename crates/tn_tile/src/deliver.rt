@@ -1,16 +1,15 @@
 //! Packets: delivered to the tile's threads, sent on to other parts, and taken from links.
 
-ghost use Rattle.std.specs.Prelude.{◌≡◌, ◌≤◌, ◌<◌, ◌-◌, IsTrue, IsSome, Some, is_some, option_copied};
+ghost use Rattle.std.specs.Prelude.{◌≡◌, ◌-◌, IsTrue, IsSome, Some, is_some, option_copied};
 ghost use Rattle.tn_base.specs.Does.{Does};
-ghost use Rattle.tn_base.specs.Message.{has_packet};
-ghost use Rattle.tn_tile.specs.Receivers.{alive_of, receivers};
-ghost use Rattle.tn_tile.specs.Rows.{accept_row, accepted, can_count, deliver_row, depart_row, is_here, offered, passed, received, sent_on};
+ghost use Rattle.tn_node.specs.NodeRows.{offered};
+ghost use Rattle.tn_tile.specs.Rows.{accept_row, accepted, deliver_row, depart_row, is_here};
+ghost use Rattle.tn_tile.specs.TileView.{now_by};
 ghost use Rattle.tn_tile.specs.Turns.{moved};
 
-use crate::receivers::receivers_of;
-use crate::tile::{Sender, Tile};
+use crate::ready::look_at;
+use crate::tile::Tile;
 use tn_base::ids::ThreadId;
-use tn_base::mask::Mask;
 use tn_base::message::Packet;
 use tn_base::port::Port;
 
@@ -24,141 +23,65 @@ pub enum Did {
 }
 
 impl Tile {
-    /// Delivers the packet that a thread sent: to the threads of this tile that are its receivers, where a slot is
-    /// free or none of them is alive, or to the buffer of its way out, where that is empty.
+    /// Delivers the packet that a thread sent. The packet goes to the threads of this tile that are its receivers, if a
+    /// slot is free or none of them is alive. It goes to where it waits for its way out, if no packet waits there.
     pub fn deliver(&mut self, t: ThreadId) -> Did
-        requires { IsTrue (is_here t.0 self.old) }
-        ensures { Does (moved result) (deliver_row t.0 self.old) self.old self.new }
+        requires { IsTrue (is_here self.old.plan t.0) }
+        ensures { Does (moved result) (now_by self.old (deliver_row self.old.plan t.0 self.old.now)) self.old self.new }
     {
         if !self.counts() {
             return Did::Nothing;
         }
-        let at = self.shape.place_in_tile(t) as usize;
-        let Some(packet) = self.pending[at].take() else {
+        let place = self.plan.place(t);
+        let Some(woken) = self.state.deliver(&self.plan, place) else {
             return Did::Nothing;
         };
-        if self.pass(&packet) {
-            return Did::Moved;
-        }
-        self.pending[at] = Some(packet);
-        Did::Nothing
+        self.ready = look_at(self.ready, &self.state, self.plan.fuel(), woken.with(place));
+        Did::Moved
     }
 
     /// Whether the packet that a thread sent can be delivered.
     pub fn can_deliver(&self, t: ThreadId) -> bool
-        requires { IsTrue (is_here t.0 self.now) }
-        ensures { result ≡ is_some (deliver_row t.0 self.now) }
+        requires { IsTrue (is_here self.now.plan t.0) }
+        ensures { result ≡ is_some (deliver_row self.now.plan t.0 self.now.now) }
     {
-        match &self.pending[self.shape.place_in_tile(t) as usize] {
+        match self.state.pending.get(self.plan.place(t)) {
             None => false,
-            Some(packet) => self.counts() && self.has_room(packet),
+            Some(packet) => self.counts() && self.state.has_room(&self.plan, packet),
         }
     }
 
     /// The packet that waits for a way out, unless the tile is held.
     pub fn offer(&self, way: Port) -> Option<&Packet>
-        ensures { option_copied result ≡ offered way self.now }
+        ensures { option_copied result ≡ offered way self.now.now.node }
     {
-        if self.held {
-            None
-        } else {
-            self.transit.get(way)
-        }
+        self.state.node.offer(way)
     }
 
     /// The packet that waits for a way out has gone to a link.
     pub fn depart(&mut self, way: Port)
-        requires { IsSome (depart_row way self.old) }
-        ensures { depart_row way self.old ≡ Some self.new }
+        requires { IsSome (depart_row way self.old.now) }
+        ensures { now_by self.old (depart_row way self.old.now) ≡ Some self.new }
     {
-        self.transit.set(way, None);
-        self.counter += 1;
+        self.state.node.depart(way);
     }
 
     /// Whether the tile would take a packet from a link.
     pub fn accepts(&self, p: &Packet) -> bool
-        ensures { result ≡ is_some (accepted p.now self.now) }
+        ensures { result ≡ is_some (accepted self.now.plan p.now self.now.now) }
     {
-        self.shape.has_packet(p) && self.has_room(p)
+        self.plan.has_packet(p) && self.state.has_room(&self.plan, p)
     }
 
     /// Takes a packet from a link. Answers for how many dead receivers on this tile it was dropped.
     pub fn accept(&mut self, p: &Packet) -> u32
-        requires { IsSome (accept_row p.now self.old) }
-        ensures row { accept_row p.now self.old ≡ Some self.new }
-        ensures dropped { result ≡ self.new.dropped - self.old.dropped }
+        requires { IsSome (accept_row self.old.plan p.now self.old.now) }
+        ensures row { now_by self.old (accept_row self.old.plan p.now self.old.now) ≡ Some self.new }
+        ensures dropped { result ≡ self.new.now.dropped - self.old.now.dropped }
     {
-        let _numbers = self.shape.numbers();
-        let before = self.dropped;
-        let _taken = self.pass(p);
-        self.counter -= 1;
-        self.black = true;
-        (self.dropped - before) as u32
-    }
-
-    /// Whether a packet can be passed on: there is a slot, or no receiver is alive, or its way out is free.
-    fn has_room(&self, p: &Packet) -> bool
-        requires { IsTrue (has_packet self.now.shape p.now) }
-        ensures { result ≡ is_some (passed p.now self.now) }
-    {
-        match self.tile.port(&p.dest) {
-            Port::Here => self.alive(p).is_empty() || !self.pool.full(),
-            way => self.transit.get(way).is_none(),
-        }
-    }
-
-    /// Passes a packet on: to its receivers here, or to the buffer of its way out.
-    fn pass(&mut self, p: &Packet) -> bool
-        requires packet { IsTrue (has_packet self.old.shape p.now) }
-        requires counts { IsTrue (can_count self.old) }
-        ensures { Does result (passed p.now self.old) self.old self.new }
-    {
-        match self.tile.port(&p.dest) {
-            Port::Here => self.receive(p),
-            Port::Down | Port::HostPort => false,
-            way => self.send_on(way, p),
-        }
-    }
-
-    /// Puts a packet where it waits for its way out, if no other waits there.
-    fn send_on(&mut self, way: Port, p: &Packet) -> bool
-        requires { IsTrue (has_packet self.old.shape p.now) }
-        ensures { Does result (sent_on way p.now self.old) self.old self.new }
-    {
-        if self.transit.get(way).is_some() {
-            return false;
-        }
-        self.transit.set(way, Some(p.copy()));
-        true
-    }
-
-    /// Hands a packet to the receivers on this tile that are alive, in one slot; counts the others.
-    fn receive(&mut self, p: &Packet) -> bool
-        requires packet { IsTrue (has_packet self.old.shape p.now) }
-        requires counts { IsTrue (can_count self.old) }
-        ensures { Does result (received p.now self.old) self.old self.new }
-    {
-        let all = receivers_of(&self.shape, &p.dest);
-        let alive = all.bits() & !self.dead.bits();
-        if alive != 0 {
-            let Ok(slot) = self.pool.put(&p.bytes, Mask::of(alive)) else {
-                return false;
-            };
-            self.senders[slot as usize] = Sender {
-                origin: p.origin,
-                number: p.number,
-            };
-        }
-        self.dropped += u64::from((all.bits() & self.dead.bits()).count_ones());
-        true
-    }
-
-    /// The receivers of a packet on this tile that are alive.
-    fn alive(&self, p: &Packet) -> Mask
-        requires { IsTrue (has_packet self.now.shape p.now) }
-        ensures { result ≡ alive_of self.now.threads (receivers self.now.shape p.now.dest) }
-    {
-        let all = receivers_of(&self.shape, &p.dest);
-        Mask::of(all.bits() & !self.dead.bits())
+        let before = self.state.dropped;
+        let woken = self.state.accept(&self.plan, p);
+        self.ready = look_at(self.ready, &self.state, self.plan.fuel(), woken);
+        (self.state.dropped - before) as u32
     }
 }

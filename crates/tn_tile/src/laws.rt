@@ -1,11 +1,11 @@
 //! Laws of tiles. A law answers nothing: its contract is what it says.
 
-ghost use Rattle.std.specs.Prelude.{◌≡◌, ◌≤◌, ◌%◌, ℕ, IsSome, IsTrue};
+ghost use Rattle.std.specs.Prelude.{◌≡◌, ◌≤◌, ◌%◌, ℕ, IsTrue};
 ghost use Rattle.std.specs.Int.{bit_at};
 ghost use Rattle.tn_base.specs.Address.{has_thread, place_in_tile, tile_threads};
 ghost use Rattle.tn_base.specs.Mask.{names_threads};
 ghost use Rattle.tn_tile.specs.Receivers.{packed};
-ghost use Rattle.tn_tile.specs.Rows.{turn_row};
+ghost use Rattle.tn_tile.specs.Turns.{HasShorter};
 
 use crate::tile::Tile;
 use tn_base::ids::ThreadId;
@@ -22,7 +22,7 @@ pub fn law_packed(shape: &Shape, mask: Mask)
     let _numbers = shape.numbers();
 }
 
-/// Where a turn of so many steps is possible, so is each shorter one.
+/// If a turn of n steps is possible, so is each shorter turn.
 pub fn law_turns(tile: &Tile, t: ThreadId)
-    ensures { (n m : ℕ) → IsSome (turn_row t.0 n tile.now) → 1 ≤ m → m ≤ n → IsSome (turn_row t.0 m tile.now) }
+    ensures { HasShorter tile.now t.0 }
 {}

@@ -1,16 +1,14 @@
 //! What the detector learns of a tile, and what it tells it.
 
-ghost use Rattle.std.specs.Prelude.{◌≡◌, ◌<◌, is_none, length, map, not};
+ghost use Rattle.std.specs.Prelude.{◌≡◌, ◌<◌, not};
 ghost use Rattle.std.specs.List.{list_all, list_any};
-ghost use Rattle.tn_slots.specs.Pool.{queue_at};
-ghost use Rattle.tn_thread.specs.Step.{is_idle};
 ghost use Rattle.tn_tile.specs.Receivers.{is_dead};
-ghost use Rattle.tn_tile.specs.Rows.{let_go, released, told, whitened};
-ghost use Rattle.tn_tile.specs.Still.{all_vote, does_nothing, has_live, is_nil, is_still, none_waits, votes_for};
+ghost use Rattle.tn_tile.specs.Rows.{gone_on, released, tile_whitened};
+ghost use Rattle.tn_tile.specs.Still.{all_vote, does_nothing, has_live, is_nil, is_still, votes_for};
+ghost use Rattle.tn_tile.specs.TileView.{with_now};
 
-use crate::buffers::Buffers;
+use crate::ready::all_ready;
 use crate::tile::Tile;
-use tn_base::message::Packet;
 use tn_slots::pool::Pool;
 use tn_thread::state::ThreadState;
 use tn_thread::thread::Thread;
@@ -19,69 +17,70 @@ impl Tile {
     /// Whether the tile does nothing by itself: all its threads are idle or ended, all queues are empty, and no
     /// packet is pending or goes on.
     pub fn still(&self) -> bool
-        ensures { result ≡ is_still self.now }
+        ensures { result ≡ is_still self.now.now }
     {
-        all_rest(&self.threads)
-            && all_empty(&self.pool)
-            && all_sent(&self.pending)
-            && none_wait(&self.transit)
+        all_rest(self.state.threads.all())
+            && all_empty(&self.state.pool)
+            && self.state.pending.is_empty()
+            && self.state.node.out.is_empty()
     }
 
     /// Whether a thread of the tile has not ended.
     pub fn live(&self) -> bool
-        ensures { result ≡ has_live self.now }
+        ensures { result ≡ has_live self.now.now }
     {
-        any_live(&self.threads)
+        any_live(self.state.threads.all())
     }
 
     /// Whether all threads that have not ended vote for the end.
     pub fn votes(&self) -> bool
-        ensures { result ≡ all_vote self.now }
+        ensures { result ≡ all_vote self.now.now }
     {
-        all_agree(&self.threads)
+        all_agree(self.state.threads.all())
     }
 
     /// Whether the tile took a packet from a link since it reported last.
     pub fn black(&self) -> bool
-        ensures { result ≡ self.now.black }
+        ensures { result ≡ self.now.now.node.black }
     {
-        self.black
+        self.state.node.black
     }
 
     /// Whether the tile puts no packet on a link.
     pub fn held(&self) -> bool
-        ensures { result ≡ self.now.held }
+        ensures { result ≡ self.now.now.node.held }
     {
-        self.held
+        self.state.node.held
     }
 
     /// Packets put on links less packets taken from links.
     pub fn counter(&self) -> i64
-        ensures { result ≡ self.now.counter }
+        ensures { result ≡ self.now.now.node.counter }
     {
-        self.counter
+        self.state.node.counter
     }
 
     /// The tile has reported.
     pub fn whiten(&mut self)
-        ensures { self.new ≡ whitened self.old }
+        ensures { self.new ≡ with_now self.old (tile_whitened self.old.now) }
     {
-        self.black = false;
+        self.state.node.whiten();
     }
 
     /// Gives all idle threads their answer, and holds the tile's packets until it is let go.
     pub fn release(&mut self, value: u32)
-        ensures { self.new ≡ released value self.old }
+        ensures { self.new ≡ with_now self.old (released value self.old.now) }
     {
-        answer_each(&mut self.threads, value);
-        self.held = true;
+        self.state.threads.tell(value);
+        self.state.node.hold();
+        self.ready = all_ready(&self.plan, &self.state);
     }
 
     /// Lets the tile's packets go.
     pub fn go(&mut self)
-        ensures { self.new ≡ let_go self.old }
+        ensures { self.new ≡ with_now self.old (gone_on self.old.now) }
     {
-        self.held = false;
+        self.state.node.go();
     }
 }
 
@@ -147,13 +146,6 @@ fn any_live(threads: &[Thread]) -> bool
     threads.iter().any(|t| !is_dead(t.state()))
 }
 
-/// Whether no packet is pending.
-fn all_sent(pending: &[Option<Packet>]) -> bool
-    ensures { result ≡ list_all is_none pending.now }
-{
-    pending.iter().all(|p| p.is_none())
-}
-
 /// Whether all queues are empty.
 fn all_empty(pool: &Pool) -> bool
     ensures { result ≡ list_all is_nil pool.now.queues }
@@ -164,33 +156,4 @@ fn all_empty(pool: &Pool) -> bool
         }
     }
     true
-}
-
-/// Whether no packet waits for a way out.
-fn none_wait(transit: &Buffers) -> bool
-    ensures { result ≡ none_waits transit.now }
-{
-    transit.east.is_none()
-        && transit.west.is_none()
-        && transit.south.is_none()
-        && transit.north.is_none()
-        && transit.up.is_none()
-}
-
-/// Gives a thread its answer, if it is idle.
-fn tell(t: &mut Thread, value: u32)
-    ensures { t.new ≡ told value t.old }
-{
-    if let ThreadState::Idle(_) = t.state() {
-        t.answer(value);
-    }
-}
-
-/// Gives each idle thread its answer.
-fn answer_each(threads: &mut Vec<Thread>, value: u32)
-    ensures { threads.new.items ≡ map (told value) threads.old.items }
-{
-    for k in 0..threads.len() {
-        tell(&mut threads[k], value);
-    }
 }

@@ -1,89 +1,71 @@
 //! A tile.
 
-ghost use Rattle.std.specs.Prelude.{◌≡◌, ◌≤◌, ◌<◌, ◌↔◌, IfOk, IsTrue, map, option_copied, option_map, replicate, slice_index_or, if◌then◌else◌, Option, None, Some};
-ghost use Rattle.rv_isa.specs.Decode.{decode_of};
+ghost use Rattle.std.specs.Prelude.{◌≡◌, ◌≤◌, ◌<◌, ◌↔◌, IfOk, IsTrue, is_some, length, map, option_copied, Option, None, Some};
 ghost use Rattle.tn_base.specs.Address.{has_tile, place_in_tile, tile_of, tile_threads};
-ghost use Rattle.tn_slots.specs.Pool.{message_at};
-ghost use Rattle.tn_tile.specs.Kept.{AreStarts, WellShaped, fresh_tile};
-ghost use Rattle.tn_tile.specs.Rows.{buffer_at, can_count, is_here, sender_of};
-ghost use Rattle.tn_tile.specs.Step.{pending_at, thread_at};
+ghost use Rattle.tn_node.specs.PortRows.{at};
+ghost use Rattle.tn_tile.specs.Kept.{AreStarts, WellShaped, fresh_state, fresh_tile};
+ghost use Rattle.tn_tile.specs.Ready.{IsFirst};
+ghost use Rattle.tn_tile.specs.Receivers.{dead_in};
+ghost use Rattle.tn_tile.specs.Rows.{can_count, is_here, sender_of};
+ghost use Rattle.tn_tile.specs.Step.{can_step, pending_at, thread_at};
 
-use crate::buffers::Buffers;
-use rv_isa::instr::Instr;
-use rv_isa::word::decode;
+use crate::bits::first_bit;
+use crate::pending::Pending;
+use crate::plan::Plan;
+use crate::ready::all_ready;
+use crate::sender::Senders;
+use crate::state::TileState;
+use crate::threads::Threads;
 use std::alloc::{AllocError, Global};
 use std::marker::Model;
 use tn_base::event::Trap;
 use tn_base::ids::{ThreadId, TileId};
-use tn_base::mask::Mask;
 use tn_base::message::Packet;
 use tn_base::port::Port;
 use tn_base::shape::Shape;
+use tn_node::node::Node;
 use tn_slots::pool::Pool;
 use tn_thread::thread::Thread;
 
 /// Letters are dropped on a tile only as long as they can be counted.
 const MOST_DROPPED: u64 = 1 << 63;
 
-/// Whose packet a slot has, and which of its packets.
-#[derive(Clone, Copy, PartialEq, Eq, Debug)]
-pub struct Sender {
-    /// The address of the thread that sent it, or the host's.
-    pub origin: u32,
-    /// How many packets its origin sent before it, modulo 2 to the 32nd.
-    pub number: u32,
-}
-
-/// A tile: threads over one code, the pool of their message slots, the packets that they sent and those that go
-/// on to other parts.
+/// A tile: what no event changes, what events change, and the places whose thread can make a step.
 #[derive(Drop)]
 pub struct Tile {
-    pub(crate) shape: Shape,
-    pub(crate) tile: TileId,
-    pub(crate) code: Vec<Option<Instr>>,
-    pub(crate) threads: Vec<Thread>,
-    pub(crate) pool: Pool,
-    pub(crate) senders: Vec<Sender>,
-    pub(crate) pending: Vec<Option<Packet>>,
-    pub(crate) transit: Buffers,
-    pub(crate) dropped: u64,
-    pub(crate) counter: i64,
-    pub(crate) black: bool,
-    pub(crate) held: bool,
-    pub(crate) ended: Option<(ThreadId, Trap)>,
-    /// The places of the threads that ended.
-    pub(crate) dead: Mask,
+    pub(crate) plan: Plan,
+    pub(crate) state: TileState,
+    pub(crate) ready: u64,
 }
 
 impl Model for Tile {
-    ghost use Rattle.std.specs.Prelude.{◌≡◌};
     ghost use Rattle.tn_tile.specs.TileView.{TileView};
-    ghost use Rattle.tn_tile.specs.Kept.{WellShaped};
-    ghost use Rattle.tn_tile.specs.Receivers.{dead_in};
+    ghost use Rattle.tn_tile.specs.Inside.{KnowsReady};
 
     ghost Value = { TileView };
 
-    ghost view = { λ t. record { shape = t.shape; tile = t.tile.0; code = t.code.items; threads = t.threads.items; pool = t.pool; senders = t.senders.items; pending = t.pending.items; transit = t.transit; dropped = t.dropped; counter = t.counter; black = t.black; held = t.held; ended = t.ended } };
+    ghost view = { λ t. record { plan = t.plan; now = t.state } };
 
-    ghost invariant = { λ t. WellShaped (record { shape = t.shape; tile = t.tile.0; code = t.code.items; threads = t.threads.items; pool = t.pool; senders = t.senders.items; pending = t.pending.items; transit = t.transit; dropped = t.dropped; counter = t.counter; black = t.black; held = t.held; ended = t.ended }) × (t.dead ≡ dead_in t.threads.items) };
+    ghost invariant = { λ t. KnowsReady (record { plan = t.plan; now = t.state }) t.ready };
 }
 
-/// The instructions of the words, each where it is one.
-fn decode_all(alloc: Global, words: &[u32]) -> Result<Vec<Option<Instr>>, AllocError>
-    ensures { IfOk result (λ v. v.items ≡ map decode_of words.now) }
+/// The state of a tile at its start.
+fn start_of(alloc: Global, shape: &Shape, threads: Vec<Thread>) -> Result<TileState, AllocError>
+    requires count { length threads.items ≡ tile_threads shape.now }
+    requires alive { dead_in threads.items ≡ 0 }
+    ensures { IfOk result (λ s. s ≡ fresh_state shape.now threads.items) }
 {
-    words.iter().map(|word| decode(*word)).collect(alloc)
-}
-
-/// No packet of any thread is pending.
-fn none_pending(alloc: Global, count: u32) -> Result<Vec<Option<Packet>>, AllocError>
-    ensures { IfOk result (λ v. v.items ≡ replicate count None) }
-{
-    let mut all = Vec::with_capacity(alloc, count as usize)?;
-    for _k in 0..count {
-        all.push(None)?;
-    }
-    Ok(all)
+    let n = shape.numbers();
+    let count = shape.tile_threads();
+    Ok(TileState {
+        pool: Pool::of(alloc, n.slots, count, shape.slot_bytes())?,
+        senders: Senders::of(alloc, n.slots)?,
+        pending: Pending::of(alloc, count)?,
+        threads: Threads::of(threads),
+        node: Node::new(),
+        dropped: 0,
+        ended: None,
+    })
 }
 
 impl Tile {
@@ -99,134 +81,152 @@ impl Tile {
         requires threads { AreStarts shape.now tile.0 threads.items }
         ensures { IfOk result (λ t. t ≡ fresh_tile shape.now tile.0 code.now threads.items) }
     {
-        let n = shape.numbers();
-        let code = decode_all(alloc, code)?;
-        let pool = Pool::of(alloc, n.slots, shape.tile_threads(), shape.slot_bytes())?;
-        let nobody = Sender {
-            origin: 0,
-            number: 0,
-        };
-        let senders = vec![in alloc; nobody; n.slots as usize]?;
-        let pending = none_pending(alloc, shape.tile_threads())?;
-        Ok(Tile {
-            shape: *shape,
-            tile,
-            code,
-            threads,
-            pool,
-            senders,
-            pending,
-            transit: Buffers::new(),
-            dropped: 0,
-            counter: 0,
-            black: false,
-            held: false,
-            ended: None,
-            dead: Mask::of(0),
-        })
+        let plan = Plan::of(alloc, shape, tile, code)?;
+        let state = start_of(alloc, shape, threads)?;
+        let ready = all_ready(&plan, &state);
+        Ok(Tile { plan, state, ready })
     }
 
     /// The machine that the tile is a part of.
     pub fn shape(&self) -> Shape
-        ensures { result ≡ self.now.shape }
+        ensures { result ≡ self.now.plan.shape }
     {
-        self.shape
+        self.plan.shape()
     }
 
     /// The tile's name.
     pub fn name(&self) -> TileId
-        ensures { result.0 ≡ self.now.tile }
+        ensures { result.0 ≡ self.now.plan.tile }
     {
-        self.tile
+        self.plan.name()
     }
 
     /// A thread of the tile.
     pub fn thread(&self, t: ThreadId) -> &Thread
-        requires { IsTrue (is_here t.0 self.now) }
-        ensures { result.now ≡ thread_at self.now (place_in_tile self.now.shape t.0) }
+        requires { IsTrue (is_here self.now.plan t.0) }
+        ensures { result.now ≡ thread_at self.now.now (place_in_tile self.now.plan.shape t.0) }
     {
-        &self.threads[self.shape.place_in_tile(t) as usize]
+        self.state.threads.get(self.plan.place(t))
     }
 
     /// The threads by ascending address.
     pub fn threads(&self) -> &[Thread]
-        ensures { result.now ≡ self.now.threads }
+        ensures { result.now ≡ self.now.now.threads }
     {
-        &self.threads
+        self.state.threads.all()
     }
 
     /// The message slots of the tile.
     pub fn pool(&self) -> &Pool
-        ensures { result.now ≡ self.now.pool }
+        ensures { result.now ≡ self.now.now.pool }
     {
-        &self.pool
+        &self.state.pool
     }
 
     /// The packet that a thread sent and that is not delivered yet.
     pub fn pending(&self, t: ThreadId) -> Option<&Packet>
-        requires { IsTrue (is_here t.0 self.now) }
-        ensures { option_copied result ≡ pending_at self.now (place_in_tile self.now.shape t.0) }
+        requires { IsTrue (is_here self.now.plan t.0) }
+        ensures { option_copied result ≡ pending_at self.now.now (place_in_tile self.now.plan.shape t.0) }
     {
-        self.pending[self.shape.place_in_tile(t) as usize].as_ref()
+        self.state.pending.get(self.plan.place(t))
     }
 
     /// The first thread that trapped here, and how.
     pub fn ended(&self) -> Option<(ThreadId, Trap)>
-        ensures { result ≡ self.now.ended }
+        ensures { result ≡ self.now.now.ended }
     {
-        self.ended
+        self.state.ended
     }
 
     /// How many letters were dropped here since their receivers were dead.
     pub fn dropped(&self) -> u64
-        ensures { result ≡ self.now.dropped }
+        ensures { result ≡ self.now.now.dropped }
     {
-        self.dropped
+        self.state.dropped
     }
 
     /// The packet that waits for a way out, held or not.
     pub fn buffer(&self, way: Port) -> Option<&Packet>
-        ensures { option_copied result ≡ buffer_at way self.now.transit }
+        ensures { option_copied result ≡ at way self.now.now.node.out }
     {
-        self.transit.get(way)
+        self.state.node.out.get(way)
     }
 
-    /// Whose packet a slot has, and which of its packets; none where the slot is free.
+    /// Whose packet a slot has, and which of its packets; None if the slot is free.
     pub fn sender(&self, slot: u16) -> Option<(u32, u32)>
-        ensures { result ≡ sender_of slot self.now }
+        ensures { result ≡ sender_of slot self.now.now }
     {
-        self.pool.bytes(slot)?;
-        let sender = self.senders[slot as usize];
+        self.state.pool.bytes(slot)?;
+        let sender = self.state.senders.get(slot);
         Some((sender.origin, sender.number))
     }
 
     /// Whether letters that are dropped here can still be counted.
     #[inline(always)]
     pub fn counts(&self) -> bool
-        ensures { result ≡ can_count self.now }
+        ensures { result ≡ can_count self.now.now }
     {
-        self.dropped < MOST_DROPPED
+        self.state.dropped < MOST_DROPPED
     }
 
-    /// Whether the tile is this one of this machine.
+    /// Whether the tile is this tile of this machine.
     pub fn made_for(&self, shape: &Shape, tile: TileId) -> bool
-        ensures { IsTrue result ↔ ((self.now.shape ≡ shape.now) × (self.now.tile ≡ tile.0)) }
+        ensures { IsTrue result ↔ ((self.now.plan.shape ≡ shape.now) × (self.now.plan.tile ≡ tile.0)) }
     {
-        self.shape == *shape && self.tile == tile
+        self.plan.is_for(shape, tile)
     }
 
     /// Tells what holds of every tile.
     pub fn kept(&self)
         ensures { WellShaped self.now }
     {
-        let _shape = &self.shape;
+        let _plan = &self.plan;
     }
 
     /// Whether a thread is one of the tile's.
     #[inline(always)]
     pub fn is_here(&self, t: ThreadId) -> bool
-        ensures { result ≡ is_here t.0 self.now }
+        ensures { result ≡ is_here self.now.plan t.0 }
     {
-        self.shape.has_thread(t) && t.tile() == self.tile
+        self.plan.is_here(t)
     }
+
+    /// The first place from a place on whose thread can make a step.
+    pub fn next_ready(&self, from: u32) -> Option<u32>
+        ensures { IsFirst (λ k. can_step self.now.plan.shape.fuel k self.now.now) from (tile_threads self.now.plan.shape) result }
+    {
+        first_bit(self.ready, from)
+    }
+
+    /// The first place from a place on whose thread has a pending packet.
+    pub fn next_send(&self, from: u32) -> Option<u32>
+        ensures { IsFirst (λ k. is_some (pending_at self.now.now k)) from (tile_threads self.now.plan.shape) result }
+    {
+        self.state.pending.next(from)
+    }
+
+    /// The same tile.
+    pub fn copy(&self) -> Result<Tile, AllocError>
+        ensures { IfOk result (λ t. t ≡ self.now) }
+    {
+        Ok(Tile {
+            plan: self.plan.copy()?,
+            state: self.state.copy()?,
+            ready: self.ready,
+        })
+    }
+
+    /// Whether two tiles are equal, but for the spare room of their lists.
+    pub fn same(&self, other: &Tile) -> bool
+        ensures { IsTrue result ↔ (self.now ≡ other.now) }
+    {
+        same_parts(self, other)
+    }
+}
+
+/// Whether two tiles have equal plans and equal states.
+fn same_parts(a: &Tile, b: &Tile) -> bool
+    ensures { IsTrue result ↔ ((a.now.plan ≡ b.now.plan) × (a.now.now ≡ b.now.now)) }
+{
+    a.plan.same(&b.plan) && a.state.same(&b.state)
 }

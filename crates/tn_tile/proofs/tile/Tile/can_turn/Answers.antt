@@ -9,7 +9,7 @@ use Rattle.tn_tile.proofs.tile.Tile.can_turn.Goals as goal
 pub returns-then-counts : goal.returns-then-counts
 returns-then-counts c =
     let v : TileView = c.args.self.now in
-    let counts : can_count v ≡ true = search rules in
-    let turn : 1 ≤ v.shape.turn = rw (← c.self.view_is) c.numbers-numbers.ensures.limits.turn.0 in
-    let place : c.place_in_tile.result ≡ place_in_tile v.shape c.args.t.0 = c.place_in_tile.ensures.value ∙ ap (λ (x : TileView). place_in_tile x.shape c.args.t.0) c.self.view_is in
-    c.can_step.ensures ∙ ap (λ k. can_step k v) place ∙ sym (one_turn c.args.t.0 v c.requires counts turn)
+    let counts : can_count v.now ≡ true = search rules in
+    let turn : 1 ≤ v.plan.shape.turn = rw (← c.self.view_is) c.turn-turn.ensures.limits.turn.0 in
+    let place : c.place.result ≡ place_in_tile v.plan.shape c.args.t.0 = c.place.ensures.value ∙ ap (λ (x : TileView). place_in_tile x.plan.shape c.args.t.0) c.self.view_is in
+    c.can_step.ensures ∙ ap (λ k. can_step v.plan.shape.fuel k v.now) place ∙ sym (one_turn v.plan c.args.t.0 v.now c.requires counts turn)

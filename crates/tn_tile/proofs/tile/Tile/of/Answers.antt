@@ -1,12 +1,25 @@
-use Rattle.std.proofs.Common.{◌≡◌, ◌∙◌, replicate}
+use Rattle.std.proofs.Common.{◌≡◌, sym, subst}
+use Rattle.tn_tile.specs.Kept.{WellShaped, fresh_tile}
+use Rattle.tn_tile.specs.TileView.{TileView}
 use Rattle.tn_tile.proofs.Fresh.{fresh_shaped, none_ended}
 use Rattle.tn_tile.proofs.tile.Tile.of.Goals as goal
 
+pub start_of-requires-clause-alive : goal.start_of-requires-clause-alive
+start_of-requires-clause-alive c = none_ended c.args.shape.now c.args.tile.0 c.args.threads.items c.requires.threads
+
+pub all_ready-ready-requires : goal.all_ready-ready-requires
+all_ready-ready-requires c =
+    let v : TileView = record { plan = c.in_ok-plan.plan; now = c.in_ok-state.state } in
+    let same : v ≡ fresh_tile c.args.shape.now c.args.tile.0 c.args.code.now c.args.threads.items = λ i. record { plan = c.in_ok-plan.ensures i; now = c.in_ok-state.ensures i } in
+    let shaped : WellShaped v = subst WellShaped (sym same) (fresh_shaped c.args.shape.now c.args.tile.0 c.args.code.now c.args.threads.items c.requires.tile c.requires.threads) in
+    shaped.fits
+
 pub invariant_of-result : goal.invariant_of-result
 invariant_of-result c =
-    let n = c.args.shape.now in
-    let senders : c.in_ok-senders.senders.items ≡ replicate c.numbers-n.result.slots (record { origin = 0; number = 0 }) = c.in_ok-senders.ensures.items_if_clones_equal (λ y e. e) in (
-      rw (c.in_ok-code.ensures, c.in_ok-pool.ensures, senders, c.in_ok-pending.ensures, c.new.ensures, c.numbers-n.ensures.value, c.tile_threads.ensures.value, c.tile_threads-2.ensures.value, c.slot_bytes.ensures)
-          (fresh_shaped n c.args.tile.0 c.args.code.now c.args.threads.items c.requires.tile c.requires.threads),
-      c.of-2.ensures ∙ none_ended n c.args.tile.0 c.args.threads.items c.requires.threads,
-    )
+    let v : TileView = record { plan = c.in_ok-plan.plan; now = c.in_ok-state.state } in
+    let same : v ≡ fresh_tile c.args.shape.now c.args.tile.0 c.args.code.now c.args.threads.items = λ i. record { plan = c.in_ok-plan.ensures i; now = c.in_ok-state.ensures i } in
+    record {
+      shaped = subst WellShaped (sym same) (fresh_shaped c.args.shape.now c.args.tile.0 c.args.code.now c.args.threads.items c.requires.tile c.requires.threads);
+      few = c.all_ready-ready.ensures.few;
+      ready = c.all_ready-ready.ensures.marks;
+    }

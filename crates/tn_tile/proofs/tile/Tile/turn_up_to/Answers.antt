@@ -1,37 +1,26 @@
-use Rattle.std.proofs.Common.{rules, ◌≡◌, ◌==◌, ◌+◌, true, Some, arith, add-one}
-use Rattle.std.proofs.lemmas.Bool.{and_parts}
-use Rattle.tn_base.specs.Address.{has_thread, tile_of}
-use Rattle.tn_tile.specs.Step.{can_step, steps_of}
-use Rattle.tn_tile.proofs.Steps.{stepped_shape, steps_more}
-use Rattle.tn_tile.proofs.Turned.{steps_join}
+use Rattle.std.proofs.Common.{◌≡◌, ◌<◌, ◌∙◌, true, ap}
+use Rattle.tn_base.specs.Address.{tile_threads}
+use Rattle.tn_tile.specs.Rows.{is_here}
+use Rattle.tn_tile.specs.Step.{can_step}
+use Rattle.tn_tile.specs.TileView.{TileView}
+use Rattle.tn_tile.proofs.Known.{turned_known}
+use Rattle.tn_tile.proofs.Moved.{steps_fit}
+use Rattle.tn_tile.proofs.Shaped.{has_place}
 use Rattle.tn_tile.proofs.tile.Tile.turn_up_to.Goals as goal
 
-pub loop-made-init : goal.loop-made-init
-loop-made-init c =
-    let here = and_parts (has_thread c.args.self.now.shape c.args.t.0) (tile_of c.args.t.0 == c.args.self.now.tile) c.requires.here in
-    let named : has_thread c.self.inside.shape c.args.t.0 ≡ true = rw (← c.self.view_is) at here.0 in
-    let same = c.run_alone-made.ensures.count in
-    record {
-      few = c.run_alone-made.ensures.few;
-      there = rw (c.run_alone-made.ensures.shape, ← c.self.view_is) (c.place_in_tile-place.ensures.below named);
-      steps = c.run_alone-made.ensures.steps;
-      counts = omega arith;
-    }
+pub can_step-can-requires : goal.can_step-can-requires
+can_step-can-requires c =
+    let v : TileView = record { plan = c.self.inside.plan; now = c.self.inside.state } in
+    let k = c.place-place.result in
+    let here : is_here v.plan c.args.t.0 ≡ true = rw (← c.self.view_is) at c.requires.here in
+    let below : k < tile_threads v.plan.shape = c.place-place.ensures.below here in
+    has_place v.plan k c.turn-made.new.self below (steps_fit c.turn-made.result v.plan k v.now c.turn-made.new.self below c.turn-made.ensures.steps c.self.invariant.shaped.fits)
 
-pub loop-made-preserved : goal.loop-made-preserved
-loop-made-preserved c =
-    let can : can_step c.place_in_tile-place.result c.loop-made.self ≡ true = search rules in
-    let more = c.step.ensures.count in
-    let same = c.run_alone-made-in-loop-made.ensures.count in
-    let few = c.run_alone-made-in-loop-made.ensures.few in
-    let one : steps_of c.place_in_tile-place.result (c.loop-made.made + 1) c.args.self.now ≡ Some c.step.new.self
-    = rw (c.step.ensures.row, add-one) (steps_more c.place_in_tile-place.result c.loop-made.made c.args.self.now c.loop-made.self c.loop-made.invariant.steps can) in
-    record {
-      few = omega arith;
-      there = rw (c.run_alone-made-in-loop-made.ensures.shape, c.step.ensures.row, stepped_shape c.place_in_tile-place.result c.loop-made.self) c.loop-made.invariant.there;
-      steps = steps_join (c.loop-made.made + 1) c.run_alone-made-in-loop-made.result c.place_in_tile-place.result c.args.self.now c.step.new.self c.run_alone-made-in-loop-made.new.self one c.run_alone-made-in-loop-made.ensures.steps;
-      counts = omega arith;
-    }
-
-pub run_alone-made-requires-in-loop-made : goal.run_alone-made-requires-in-loop-made
-run_alone-made-requires-in-loop-made c = rw (c.step.ensures.row, stepped_shape c.place_in_tile-place.result c.loop-made.self) c.loop-made.invariant.there
+pub invariant_of-self : goal.invariant_of-self
+invariant_of-self c =
+    let v : TileView = record { plan = c.self.inside.plan; now = c.self.inside.state } in
+    let k = c.place-place.result in
+    let here : is_here v.plan c.args.t.0 ≡ true = rw (← c.self.view_is) at c.requires.here in
+    let below : k < tile_threads v.plan.shape = c.place-place.ensures.below here in
+    turned_known v k c.turn-made.result c.self.inside.ready c.write_bit-self-inside.result c.turn-made.new.self below c.self.invariant c.turn-made.ensures.steps
+    (c.write_bit-self-inside.ensures.written ∙ c.can_step-can.ensures ∙ ap (λ f. can_step f k c.turn-made.new.self) c.fuel.ensures.value) c.write_bit-self-inside.ensures.others

@@ -1,0 +1,46 @@
+//! One step of a thread over a code.
+
+ghost use Rattle.std.specs.Prelude.{◌≡◌, ◌<◌, ◌/◌, IsTrue, slice_get};
+ghost use Rattle.tn_thread.specs.Fits.{StepFits};
+ghost use Rattle.tn_thread.specs.Step.{FitsStep, runnable};
+ghost use Rattle.tn_tile.specs.Step.{fetched_at, next_step};
+
+use rv_exec::exec::exec;
+use rv_isa::instr::Instr;
+use tn_base::effect::Effect;
+use tn_base::event::Trap;
+use tn_base::op::Op;
+use tn_thread::state::ThreadState;
+use tn_thread::thread::Thread;
+use tn_thread::view::View;
+
+/// A thread's own part of a step, and what it asks of its tile.
+#[inline(always)]
+pub(crate) fn advance<V: View>(code: &[Option<Instr>], thread: &mut Thread, sight: &V) -> Op
+    requires runnable { IsTrue (runnable (V.sight sight.now) thread.old.state) }
+    requires fuel { thread.old.steps < thread.old.shape.fuel }
+    ensures step { record { thread = thread.new; op = result } ≡ next_step code.now (V.sight sight.now) thread.old }
+    ensures fits { StepFits (V.sight sight.now) thread.old (record { thread = thread.new; op = result }) }
+{
+    match thread.state() {
+        ThreadState::Run => {
+            let effect = fetch(code, thread);
+            thread.apply(effect, sight)
+        }
+        _ => thread.resume(sight),
+    }
+}
+
+/// Executes the instruction at a thread's pc: what it writes to the registers, and its effect.
+#[inline(always)]
+fn fetch(code: &[Option<Instr>], thread: &mut Thread) -> Effect
+    ensures row { record { thread = thread.new; effect = result } ≡ fetched_at (slice_get code.now (thread.old.pc / 4)) thread.old }
+    ensures fits { FitsStep result }
+{
+    let pc = thread.pc();
+    match code.get((pc / 4) as usize) {
+        None => Effect::Trap(Trap::BadFetch),
+        Some(None) => Effect::Trap(Trap::BadInstr),
+        Some(Some(i)) => exec(i, pc, &mut thread.regs),
+    }
+}

@@ -1,0 +1,205 @@
+//! What events change of a tile.
+
+ghost use Rattle.std.specs.Prelude.{◌≡◌, ◌≤◌, ◌<◌, ◌+◌, ◌↔◌, ◌^◌, IfOk, IsTrue, Some};
+ghost use Rattle.tn_base.specs.declared.ids.ThreadId.{ThreadId};
+ghost use Rattle.tn_base.specs.Address.{in_tile, tile_threads};
+ghost use Rattle.tn_tile.specs.Kept.{HasPlace, IsFit, MayAct};
+ghost use Rattle.tn_tile.specs.Same.{SameCounts, SameMessages, SameState};
+ghost use Rattle.tn_tile.specs.Step.{asked, can_step, stepped, steps_of};
+ghost use Rattle.tn_tile.specs.Turns.{StepsUpTo};
+
+use crate::pending::Pending;
+use crate::plan::Plan;
+use crate::sender::Senders;
+use crate::sight::TileSight;
+use crate::threads::Threads;
+use std::alloc::AllocError;
+use tn_base::event::Trap;
+use tn_base::ids::ThreadId;
+use tn_base::message::Packet;
+use tn_base::op::Op;
+use tn_node::node::Node;
+use tn_slots::pool::Pool;
+use tn_thread::state::ThreadState;
+
+/// The threads of a tile, the pool of their message slots, the packets that they sent and those that go on to other parts.
+#[derive(Drop)]
+pub struct TileState {
+    /// The threads by ascending address.
+    pub(crate) threads: Threads,
+    pub(crate) pool: Pool,
+    /// For each slot whose packet was put there last.
+    pub(crate) senders: Senders,
+    /// For each thread the packet that it sent and that is not delivered yet.
+    pub(crate) pending: Pending,
+    /// The packets that go on to other parts, and what the detector asks of the tile.
+    pub(crate) node: Node,
+    /// How many letters were dropped here since their receivers were dead.
+    pub(crate) dropped: u64,
+    /// The first thread that trapped, and how.
+    pub(crate) ended: Option<(ThreadId, Trap)>,
+}
+
+impl TileState {
+    /// Whether the thread at a place can make a step.
+    #[inline(always)]
+    pub(crate) fn can_step(&self, fuel: u32, place: u32) -> bool
+        requires { HasPlace place self.now }
+        ensures { result ≡ can_step fuel place self.now }
+    {
+        let sight = TileSight {
+            pool: &self.pool,
+            place,
+            can_send: self.pending.is_free(place),
+        };
+        let thread = self.threads.get(place);
+        thread.runnable(&sight) && thread.steps() < fuel
+    }
+
+    /// Makes as many of `most` steps of the thread at a place as it can, and says how many.
+    pub(crate) fn turn(&mut self, plan: &Plan, place: u32, most: u32) -> u32
+        requires there { place < tile_threads plan.now.shape }
+        requires fits { IsFit plan.now self.old }
+        requires few { most ≤ 64 }
+        requires counts { self.old.dropped < 2 ^ 63 }
+        ensures { StepsUpTo plan.now place most result self.old self.new }
+    {
+        let fuel = plan.fuel();
+        let mut made = self.run_alone(plan, place, most);
+        while made < most && self.can_step(fuel, place) {
+            self.step(plan, place);
+            made += 1;
+            made += self.run_alone(plan, place, most - made);
+        }
+        made
+    }
+
+    /// Makes steps of the thread at a place that ask nothing of the tile: at most this many, and none past the fuel.
+    fn run_alone(&mut self, plan: &Plan, place: u32, most: u32) -> u32
+        requires there { place < tile_threads plan.now.shape }
+        requires fits { IsFit plan.now self.old }
+        ensures steps { steps_of plan.now place result self.old ≡ Some self.new }
+        ensures few { result ≤ most }
+        ensures count { self.new.dropped ≡ self.old.dropped }
+    {
+        let fuel = plan.fuel();
+        let thread = self.threads.get(place);
+        let ThreadState::Run = thread.state() else {
+            return 0;
+        };
+        let left = fuel - thread.steps();
+        let sight = TileSight {
+            pool: &self.pool,
+            place,
+            can_send: self.pending.is_free(place),
+        };
+        self.threads
+            .run_alone(place, plan.code(), &sight, most.min(left))
+    }
+
+    /// One step of the thread at a place.
+    #[inline(always)]
+    fn step(&mut self, plan: &Plan, place: u32)
+        requires there { place < tile_threads plan.now.shape }
+        requires fits { IsFit plan.now self.old }
+        requires can { IsTrue (can_step plan.now.shape.fuel place self.old) }
+        requires counts { self.old.dropped < 2 ^ 63 + 2 ^ 16 }
+        ensures row { self.new ≡ stepped plan.now.code place self.old }
+        ensures count { self.new.dropped ≤ self.old.dropped + 512 }
+    {
+        let number = self.threads.get(place).sends();
+        let sight = TileSight {
+            pool: &self.pool,
+            place,
+            can_send: self.pending.is_free(place),
+        };
+        let op = self.threads.step(place, plan.code(), &sight);
+        self.act(plan, place, number, op);
+    }
+
+    /// Does what the step of the thread at a place asks of the tile, where the thread had sent `number` packets.
+    #[inline(always)]
+    fn act(&mut self, plan: &Plan, place: u32, number: u32, op: Op)
+        requires there { place < tile_threads plan.now.shape }
+        requires place { HasPlace place self.old }
+        requires may { MayAct place op self.old.pool }
+        requires counts { self.old.dropped < 2 ^ 63 + 2 ^ 16 }
+        ensures row { self.new ≡ asked place (record { 0 = in_tile plan.now.shape plan.now.tile place }) number op self.old }
+        ensures count { self.new.dropped ≤ self.old.dropped + 512 }
+    {
+        match op {
+            Op::None | Op::Idle(_) => {}
+            Op::Send(dest, bytes) => {
+                let origin = plan.thread(place).0;
+                let packet = Packet {
+                    origin,
+                    number,
+                    dest,
+                    bytes,
+                };
+                self.pending.put(place, packet);
+            }
+            Op::Hand => {
+                let _taken = self.pool.take(place);
+            }
+            Op::Free(slot) => {
+                let _freed = self.pool.free(place, slot);
+            }
+            Op::Kill(_) => {
+                self.pool.kept();
+                self.dropped += u64::from(self.pool.leave(place));
+            }
+            Op::Trap(why) => {
+                if self.ended.is_none() {
+                    self.ended = Some((plan.thread(place), why));
+                }
+            }
+        }
+    }
+
+    /// The same state.
+    pub(crate) fn copy(&self) -> Result<TileState, AllocError>
+        ensures { IfOk result (λ s. s ≡ self.now) }
+    {
+        Ok(TileState {
+            threads: self.threads.copy()?,
+            pool: self.pool.copy()?,
+            senders: self.senders.copy()?,
+            pending: self.pending.copy()?,
+            node: self.node.copy(),
+            dropped: self.dropped,
+            ended: self.ended,
+        })
+    }
+
+    /// Whether the states are equal.
+    pub(crate) fn same(&self, other: &TileState) -> bool
+        ensures { IsTrue result ↔ (self.now ≡ other.now) }
+    {
+        same_state(self, other)
+    }
+}
+
+/// Whether the states are equal in each field.
+fn same_state(a: &TileState, b: &TileState) -> bool
+    ensures { IsTrue result ↔ SameState a.now b.now }
+{
+    a.threads.same(&b.threads) && same_messages(a, b) && same_counts(a, b)
+}
+
+/// Whether two states have equal messages.
+fn same_messages(a: &TileState, b: &TileState) -> bool
+    ensures { IsTrue result ↔ SameMessages a.now b.now }
+{
+    a.pool.same(&b.pool)
+        && a.senders.same(&b.senders)
+        && a.pending.same(&b.pending)
+        && a.node.same(&b.node)
+}
+
+/// Whether two states have counted as much, and ended alike.
+fn same_counts(a: &TileState, b: &TileState) -> bool
+    ensures { IsTrue result ↔ SameCounts a.now b.now }
+{
+    a.dropped == b.dropped && a.ended == b.ended
+}

@@ -1,0 +1,183 @@
+//! The threads of a tile.
+
+ghost use Rattle.std.specs.Prelude.{◌≡◌, ◌≤◌, ◌<◌, ◌↔◌, ◌+◌, ◌^◌, IfOk, IsTrue, length, map, slice_index_or, slice_set};
+ghost use Rattle.tn_thread.specs.Fits.{StepFits};
+ghost use Rattle.tn_thread.specs.Step.{runnable};
+ghost use Rattle.tn_tile.specs.Alone.{RanAlone};
+ghost use Rattle.tn_tile.specs.Receivers.{dead_in};
+ghost use Rattle.tn_tile.specs.Rows.{told};
+ghost use Rattle.tn_tile.specs.Step.{next_step, no_thread};
+
+use crate::advance::advance;
+use crate::alone::run_code;
+use rv_isa::instr::Instr;
+use std::alloc::AllocError;
+use std::marker::Model;
+use tn_base::mask::Mask;
+use tn_base::op::Op;
+use tn_thread::state::ThreadState;
+use tn_thread::thread::Thread;
+use tn_thread::view::View;
+
+/// The threads of a tile by ascending address.
+#[derive(Drop)]
+pub struct Threads {
+    items: Vec<Thread>,
+    /// The places of the threads that ended.
+    dead: Mask,
+}
+
+impl Model for Threads {
+    ghost use Rattle.std.specs.Prelude.{List};
+    ghost use Rattle.tn_thread.specs.declared.thread.Thread.{Thread};
+    ghost use Rattle.tn_tile.specs.Words.{KnowsDead};
+
+    ghost Value = { List Thread };
+
+    ghost view = { λ t. t.items.items };
+
+    ghost invariant = { λ t. KnowsDead t.items.items t.dead };
+}
+
+impl Threads {
+    /// Threads of which none ended.
+    pub(crate) fn of(items: Vec<Thread>) -> Threads
+        requires few { length items.items ≤ 64 }
+        requires alive { dead_in items.items ≡ 0 }
+        ensures { result ≡ items.items }
+    {
+        Threads {
+            items,
+            dead: Mask::of(0),
+        }
+    }
+
+    /// All threads.
+    pub(crate) fn all(&self) -> &[Thread]
+        ensures { result.now ≡ self.now }
+    {
+        &self.items
+    }
+
+    /// The thread at a place.
+    #[inline(always)]
+    pub(crate) fn get(&self, at: u32) -> &Thread
+        requires { at < length self.now }
+        ensures { result.now ≡ slice_index_or self.now at no_thread }
+    {
+        &self.items[at as usize]
+    }
+
+    /// The places of the threads that ended.
+    pub(crate) fn dead(&self) -> Mask
+        ensures value { result ≡ dead_in self.now }
+        ensures few { length self.now ≤ 64 }
+    {
+        self.dead
+    }
+
+    /// The own part of a step of the thread at a place, and what the thread asks of its tile.
+    #[inline(always)]
+    pub(crate) fn step<V: View>(&mut self, at: u32, code: &[Option<Instr>], sight: &V) -> Op
+        requires there { at < length self.old }
+        requires runnable { IsTrue (runnable (V.sight sight.now) (slice_index_or self.old at no_thread).state) }
+        requires fuel { (slice_index_or self.old at no_thread).steps < (slice_index_or self.old at no_thread).shape.fuel }
+        ensures threads { self.new ≡ slice_set self.old at (next_step code.now (V.sight sight.now) (slice_index_or self.old at no_thread)).thread }
+        ensures op { result ≡ (next_step code.now (V.sight sight.now) (slice_index_or self.old at no_thread)).op }
+        ensures fits { StepFits (V.sight sight.now) (slice_index_or self.old at no_thread) (next_step code.now (V.sight sight.now) (slice_index_or self.old at no_thread)) }
+    {
+        let thread = &mut self.items[at as usize];
+        let op = advance(code, thread, sight);
+        if let Op::Kill(_) = &op {
+            self.dead = self.dead.with(at);
+        }
+        op
+    }
+
+    /// Makes steps of the thread at a place as long as they ask nothing of its tile: at most this many. The thread runs.
+    #[inline(always)]
+    pub(crate) fn run_alone<V: View>(
+        &mut self,
+        at: u32,
+        code: &[Option<Instr>],
+        sight: &V,
+        most: u32,
+    ) -> u32
+        requires there { at < length self.old }
+        requires fuel { (slice_index_or self.old at no_thread).steps + most < 2 ^ 32 }
+        ensures steps { RanAlone at result code.now (V.sight sight.now) self.old self.new }
+        ensures few { result ≤ most }
+    {
+        let thread = &mut self.items[at as usize];
+        run_code(code, thread, sight, most)
+    }
+
+    /// Gives each idle thread its answer.
+    pub(crate) fn tell(&mut self, value: u32)
+        ensures { self.new ≡ map (told value) self.old }
+    {
+        tell_each(&mut self.items, value);
+    }
+
+    /// The same threads.
+    pub(crate) fn copy(&self) -> Result<Threads, AllocError>
+        ensures { IfOk result (λ t. t ≡ self.now) }
+    {
+        let items = copy_threads(&self.items)?;
+        Ok(Threads {
+            items,
+            dead: self.dead,
+        })
+    }
+
+    /// Whether the threads are equal.
+    pub(crate) fn same(&self, other: &Threads) -> bool
+        ensures { IsTrue result ↔ (self.now ≡ other.now) }
+    {
+        same_threads(&self.items, &other.items)
+    }
+}
+
+/// Gives a thread its answer, if it is idle.
+fn tell(t: &mut Thread, value: u32)
+    ensures { t.new ≡ told value t.old }
+{
+    if let ThreadState::Idle(_) = t.state() {
+        t.answer(value);
+    }
+}
+
+/// Gives each idle thread its answer.
+fn tell_each(threads: &mut Vec<Thread>, value: u32)
+    ensures { threads.new.items ≡ map (told value) threads.old.items }
+{
+    for k in 0..threads.len() {
+        tell(&mut threads[k], value);
+    }
+}
+
+/// The same threads.
+fn copy_threads(threads: &Vec<Thread>) -> Result<Vec<Thread>, AllocError>
+    ensures { IfOk result (λ r. r.items ≡ threads.now.items) }
+{
+    let mut all = Vec::with_capacity(threads.allocator().clone()?, threads.len())?;
+    for t in threads {
+        all.push(t.copy()?)?;
+    }
+    Ok(all)
+}
+
+/// Whether the threads are equal.
+fn same_threads(a: &Vec<Thread>, b: &Vec<Thread>) -> bool
+    ensures { IsTrue result ↔ (a.now.items ≡ b.now.items) }
+{
+    if a.len() != b.len() {
+        return false;
+    }
+    for i in 0..a.len() {
+        if !a[i].same(&b[i]) {
+            return false;
+        }
+    }
+    true
+}
