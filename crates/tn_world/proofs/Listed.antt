@@ -19,16 +19,17 @@ use Rattle.tn_rows.specs.Places.{at_part, is_router, leads_from, leads_to, one_i
 use Rattle.tn_rows.specs.WorldView.{WorldView}
 use Rattle.tn_stamp.specs.declared.entry.Crossing.TheVariants as crossing
 use Rattle.tn_tile.specs.Rows.{turn_row}
-use Rattle.tn_tile.specs.TileView.{TileView}
+use Rattle.tn_tile.specs.declared.state.TileState.{TileState}
+use Rattle.tn_tile.specs.TileView.{TileView, now_by}
 use Rattle.tn_world.proofs.Others.{high_past, joined, low_past, never, part_past, stands}
 use Rattle.tn_world.proofs.Steps.{row_one}
 use Rattle.tn_world.specs.Plays.{First, NoneOf}
 
 -- ---- turns of one step stand for all
 
-none_mapped : (o : Option TileView) → option_map TileV o ≡ None → o ≡ None
-none_mapped None e = refl
-none_mapped (Some v) e = cc e
+none_mapped : (v : TileView) (o : Option TileState) → option_map TileV (now_by v o) ≡ None → o ≡ None
+none_mapped v None e = refl
+none_mapped v (Some s) e = cc e
 
 none_placed : (w : WorldView) (p : ℕ) (o : Option PartView) → option_map (with_part w p) o ≡ None → o ≡ None
 none_placed w p None e = refl
@@ -36,7 +37,7 @@ none_placed w p (Some v) e = cc e
 
 part_one : (t : ThreadId) (m : ℕ) (o : Option PartView) → option_and_then (after (event.Turn t 1) crossing.None) o ≡ None → option_and_then (after (event.Turn t m) crossing.None) o ≡ None
 part_one t m None e = refl
-part_one t m (Some (TileV v)) e = ap (λ o. option_map TileV o) (row_one t.0 m v (none_mapped (turn_row t.0 1 v) e))
+part_one t m (Some (TileV v)) e = ap (λ o. option_map TileV (now_by v o)) (row_one v.plan t.0 m v.now (none_mapped v (turn_row v.plan t.0 1 v.now) e))
 part_one t m (Some (RouterV v)) e = refl
 part_one t m (Some (LinkV v)) e = refl
 part_one t m (Some AbsentV) e = refl
