@@ -1,14 +1,17 @@
 //! What a run tries next.
 //!
-//! An agenda is advice. It goes round the parts on which something may happen, so that an event costs no look at the
-//! others; what it leaves out is found by a look at all events before a run ends, so it can cost time and never an event.
+//! An agenda is advice. It visits only parts that may have something to do, and of a tile only the threads that can make a step
+//! or have a pending packet. It may miss an event: before a run ends, every event is tested, so a miss costs time and loses no
+//! event.
 
 use crate::site::Site;
+use crate::world::World;
 use std::alloc::{AllocError, Global};
 use tn_base::event::Event;
-use tn_base::ids::{PartId, ThreadId};
+use tn_base::ids::PartId;
 use tn_base::part::Kind;
 use tn_base::shape::Shape;
+use tn_link::link::Link;
 
 /// Marks of at most 320 stops; a machine has at most 273 of them.
 const WORDS: usize = 5;
@@ -20,42 +23,69 @@ struct Ends {
     to: PartId,
 }
 
-/// The events of each host, tile and router, and where a run stands among them.
+/// The links of a host, tile or router, in their order.
+#[derive(Drop)]
+struct Stop {
+    /// The links that lead to the part.
+    arrivals: Vec<PartId>,
+    /// The links that lead away from it.
+    departures: Vec<PartId>,
+}
+
+/// The kinds of events of a part, in the order in which a run tries them.
+#[derive(Clone, Copy)]
+enum Stage {
+    Arrivals,
+    Deliveries,
+    Routings,
+    Turns,
+    Departures,
+}
+
+impl Stage {
+    /// The kind behind this kind; None behind the last.
+    fn after(self) -> Option<Stage> {
+        match self {
+            Stage::Arrivals => Some(Stage::Deliveries),
+            Stage::Deliveries => Some(Stage::Routings),
+            Stage::Routings => Some(Stage::Turns),
+            Stage::Turns => Some(Stage::Departures),
+            Stage::Departures => None,
+        }
+    }
+}
+
+/// Where a run is among the events of all parts.
 #[derive(Drop)]
 pub(crate) struct Agenda {
-    /// By part the events that can happen on it; a turn of one step stands for all turns of its thread.
-    stops: Vec<Vec<Event>>,
+    /// By part its links.
+    stops: Vec<Stop>,
     /// By part the ends of the link that it is, from the first link on.
     ends: Vec<Ends>,
     first_link: u32,
     /// The parts on which something may happen.
     marks: [u64; WORDS],
-    /// The part in hand, its next event, and whether an event of it happened since the run came to it.
+    /// The part in hand, the kind of its next event and the event's number in its kind, and whether an event of the part happened
+    /// since the run came to it.
     at: usize,
-    next: usize,
+    stage: Stage,
+    next: u32,
     moved: bool,
 }
 
 impl Agenda {
-    /// All events of a machine: of each part arrivals first, then deliveries or routings, turns and departures.
+    /// The agenda of a machine at the first part. Something may happen on every part.
     pub(crate) fn of(alloc: Global, shape: &Shape, sites: &[Site]) -> Result<Agenda, AllocError> {
         let ends = ends_of(alloc, sites)?;
         let first_link = shape.visited();
-        let mut stops = Vec::new(alloc);
-        for _ in 0..first_link {
-            stops.push(Vec::new(alloc))?;
-        }
-        push_arrivals(&mut stops, &ends, first_link)?;
-        push_deliveries(&mut stops, shape)?;
-        push_routings(&mut stops, sites)?;
-        push_turns(&mut stops, shape)?;
-        push_departures(&mut stops, &ends, first_link)?;
+        let stops = stops_of(alloc, first_link, &ends)?;
         let mut agenda = Agenda {
             stops,
             ends,
             first_link,
             marks: [0; WORDS],
             at: 0,
+            stage: Stage::Arrivals,
             next: 0,
             moved: false,
         };
@@ -63,18 +93,16 @@ impl Agenda {
         Ok(agenda)
     }
 
-    /// The next event to try; none where nothing is left to try.
-    pub(crate) fn next(&mut self) -> Option<Event> {
+    /// The next event to try; None if nothing is left to try.
+    pub(crate) fn next<L: Link>(&mut self, world: &World<L>) -> Option<Event> {
         for _ in 0..=self.stops.len() {
-            if let Some(event) = self.event() {
-                self.next = self.next.wrapping_add(1);
+            if let Some(event) = self.event(world) {
                 return Some(event);
             }
             if !self.moved {
                 self.unmark(self.at);
             }
             self.moved = false;
-            self.next = 0;
             self.at = self.next_marked()?;
         }
         None
@@ -105,9 +133,84 @@ impl Agenda {
         }
     }
 
-    /// The event in hand.
-    fn event(&self) -> Option<Event> {
-        self.stops.get(self.at)?.get(self.next).copied()
+    /// The next event of the part in hand, kind by kind. None ends the visit: the next visit begins at the first kind.
+    fn event<L: Link>(&mut self, world: &World<L>) -> Option<Event> {
+        for _ in 0..5 {
+            let found = self.event_of(world);
+            if found.is_some() {
+                return found;
+            }
+            self.next = 0;
+            match self.stage.after() {
+                Some(stage) => self.stage = stage,
+                None => {
+                    self.stage = Stage::Arrivals;
+                    return None;
+                }
+            }
+        }
+        None
+    }
+
+    /// The next event of the kind in hand.
+    fn event_of<L: Link>(&mut self, world: &World<L>) -> Option<Event> {
+        match self.stage {
+            Stage::Arrivals => self.arrival(world),
+            Stage::Deliveries => self.delivery(world),
+            Stage::Routings => self.routing(world),
+            Stage::Turns => self.turn(world),
+            Stage::Departures => self.departure(world),
+        }
+    }
+
+    /// The next link with a packet that leads to the part in hand.
+    fn arrival<L: Link>(&mut self, world: &World<L>) -> Option<Event> {
+        let stop = self.stops.get(self.at)?;
+        for _ in 0..stop.arrivals.len() {
+            let l = *stop.arrivals.get(self.next as usize)?;
+            self.next = self.next.wrapping_add(1);
+            if world.parts.get(l.0 as usize)?.carries() {
+                return Some(Event::Arrive(l, PartId(self.at as u32)));
+            }
+        }
+        None
+    }
+
+    /// The next pending packet of the part in hand.
+    fn delivery<L: Link>(&mut self, world: &World<L>) -> Option<Event> {
+        let found = world.parts.get(self.at)?.next_send(self.next)?;
+        self.next = found.place.wrapping_add(1);
+        Some(Event::Deliver(found.thread))
+    }
+
+    /// The routing of the part in hand, once a visit.
+    fn routing<L: Link>(&mut self, world: &World<L>) -> Option<Event> {
+        if self.next != 0 || !world.parts.get(self.at)?.is_router() {
+            return None;
+        }
+        self.next = 1;
+        Some(Event::Route(PartId(self.at as u32)))
+    }
+
+    /// The next thread of the part in hand that can make a step.
+    fn turn<L: Link>(&mut self, world: &World<L>) -> Option<Event> {
+        let found = world.parts.get(self.at)?.next_ready(self.next)?;
+        self.next = found.place.wrapping_add(1);
+        Some(Event::Turn(found.thread, 1))
+    }
+
+    /// The next link that leads away from the part in hand, if a packet waits there for a way out.
+    fn departure<L: Link>(&mut self, world: &World<L>) -> Option<Event> {
+        if !world.parts.get(self.at)?.offers() {
+            return None;
+        }
+        let l = *self
+            .stops
+            .get(self.at)?
+            .departures
+            .get(self.next as usize)?;
+        self.next = self.next.wrapping_add(1);
+        Some(Event::Depart(PartId(self.at as u32), l))
     }
 
     fn ends_at(&self, l: PartId) -> Option<Ends> {
@@ -128,7 +231,7 @@ impl Agenda {
         }
     }
 
-    /// The first marked part behind the one in hand, round the list.
+    /// The first marked part behind the part in hand, round the list.
     fn next_marked(&self) -> Option<usize> {
         let first = self.at.wrapping_add(1);
         let word = first / 64 % WORDS;
@@ -158,73 +261,24 @@ fn ends_of(alloc: Global, sites: &[Site]) -> Result<Vec<Ends>, AllocError> {
     Ok(all)
 }
 
-/// An event of a part.
-fn push_event(stops: &mut Vec<Vec<Event>>, p: PartId, event: Event) -> Result<(), AllocError> {
-    if let Some(events) = stops.get_mut(p.0 as usize) {
-        events.push(event)?;
+/// The links of each visited part.
+fn stops_of(alloc: Global, first_link: u32, ends: &[Ends]) -> Result<Vec<Stop>, AllocError> {
+    let mut stops = Vec::new(alloc);
+    for _ in 0..first_link {
+        stops.push(Stop {
+            arrivals: Vec::new(alloc),
+            departures: Vec::new(alloc),
+        })?;
     }
-    Ok(())
-}
-
-fn push_arrivals(stops: &mut Vec<Vec<Event>>, ends: &[Ends], first: u32) -> Result<(), AllocError> {
-    let mut l = first;
+    let mut l = first_link;
     for end in ends {
-        push_event(stops, end.to, Event::Arrive(PartId(l), end.to))?;
-        l = l.wrapping_add(1);
-    }
-    Ok(())
-}
-
-fn push_departures(
-    stops: &mut Vec<Vec<Event>>,
-    ends: &[Ends],
-    first: u32,
-) -> Result<(), AllocError> {
-    let mut l = first;
-    for end in ends {
-        push_event(stops, end.from, Event::Depart(end.from, PartId(l)))?;
-        l = l.wrapping_add(1);
-    }
-    Ok(())
-}
-
-/// An event of a thread.
-fn push_thread_event(
-    stops: &mut Vec<Vec<Event>>,
-    shape: &Shape,
-    t: ThreadId,
-    event: Event,
-) -> Result<(), AllocError> {
-    if shape.has_tile(t.tile()) {
-        push_event(stops, shape.tile_part(t.tile()), event)
-    } else {
-        Ok(())
-    }
-}
-
-fn push_deliveries(stops: &mut Vec<Vec<Event>>, shape: &Shape) -> Result<(), AllocError> {
-    for i in 0..shape.thread_count() {
-        let t = shape.thread_at(i);
-        push_thread_event(stops, shape, t, Event::Deliver(t))?;
-    }
-    Ok(())
-}
-
-fn push_routings(stops: &mut Vec<Vec<Event>>, sites: &[Site]) -> Result<(), AllocError> {
-    let mut p = 0;
-    for site in sites {
-        if let Kind::Router(_) = site.kind {
-            push_event(stops, PartId(p), Event::Route(PartId(p)))?;
+        if let Some(stop) = stops.get_mut(end.to.0 as usize) {
+            stop.arrivals.push(PartId(l))?;
         }
-        p = p.wrapping_add(1);
+        if let Some(stop) = stops.get_mut(end.from.0 as usize) {
+            stop.departures.push(PartId(l))?;
+        }
+        l = l.wrapping_add(1);
     }
-    Ok(())
-}
-
-fn push_turns(stops: &mut Vec<Vec<Event>>, shape: &Shape) -> Result<(), AllocError> {
-    for i in 0..shape.thread_count() {
-        let t = shape.thread_at(i);
-        push_thread_event(stops, shape, t, Event::Turn(t, 1))?;
-    }
-    Ok(())
+    Ok(stops)
 }

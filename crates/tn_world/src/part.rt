@@ -1,7 +1,8 @@
 //! A part of a machine.
 
-ghost use Rattle.std.specs.Prelude.{◌≡◌, ◌↔◌, IfOk, IsTrue, MatchResult, is_some, not, option_copied, option_map};
+ghost use Rattle.std.specs.Prelude.{◌≡◌, ◌↔◌, ◌<◌, IfOk, IsTrue, MatchResult, is_some, not, option_copied, option_map};
 ghost use Rattle.tn_base.specs.declared.event.Event.TheVariants as event;
+ghost use Rattle.tn_base.specs.Address.{tile_threads};
 ghost use Rattle.tn_base.specs.Does.{Does};
 ghost use Rattle.tn_rows.specs.Ends.{bad_key_on, ended_on, is_over};
 ghost use Rattle.tn_rows.specs.Events.{after, carried};
@@ -35,6 +36,13 @@ pub(crate) enum Contents<L> {
     Router(Router),
     Link(L),
     Absent,
+}
+
+/// A thread of a tile, and its place there.
+#[derive(Clone, Copy)]
+pub(crate) struct Found {
+    pub(crate) place: u32,
+    pub(crate) thread: ThreadId,
 }
 
 /// A part of a machine: a tile, a router, a link, or one of those that are not built yet. No event touches an absent part.
@@ -236,7 +244,26 @@ impl<L: Link> Part<L> {
         }
     }
 
-    /// How a run ends with a turn of this thread after which the part is this one, where that turn is final.
+    /// Whether the part is a router.
+    pub(crate) fn is_router(&self) -> bool {
+        matches!(self.contents, Contents::Router(_))
+    }
+
+    /// The first thread of the tile from a place on that can make a step; None if the part is no tile.
+    pub(crate) fn next_ready(&self, from: u32) -> Option<Found> {
+        let tile = self.as_tile()?;
+        let place = tile.next_ready(from)?;
+        Some(found_at(tile, place))
+    }
+
+    /// The first thread of the tile from a place on whose packet is pending; None if the part is no tile.
+    pub(crate) fn next_send(&self, from: u32) -> Option<Found> {
+        let tile = self.as_tile()?;
+        let place = tile.next_send(from)?;
+        Some(found_at(tile, place))
+    }
+
+    /// How a run ends with a turn of this thread after which the part is this one, if that turn is final.
     pub(crate) fn ended_by(&self, t: ThreadId) -> Option<Outcome>
         ensures { result ≡ ended_on t self.now }
     {
@@ -267,6 +294,15 @@ impl<L: Link> Part<L> {
             Contents::Absent => true,
         }
     }
+}
+
+/// The thread at a place of a tile.
+fn found_at(tile: &Tile, place: u32) -> Found
+    requires { place < tile_threads tile.now.plan.shape }
+{
+    tile.kept();
+    let thread = tile.shape().thread_in_tile(tile.name(), place);
+    Found { place, thread }
 }
 
 /// Whether a packet waits in a tile for a way out.

@@ -53,7 +53,7 @@ fn try_agenda<L: Link>(world: &mut World<L>, agenda: &mut Agenda) -> Option<Even
     ensures { MatchOption result (world.new ≡ world.old) (λ e. Makes e world.old world.new) }
 {
     for _ in 0..MOST_TRIES {
-        let tried = agenda.next()?;
+        let tried = agenda.next(world)?;
         if let Some(event) = make(world, &tried) {
             agenda.happened(&event);
             return Some(event);
