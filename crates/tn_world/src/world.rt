@@ -68,6 +68,13 @@ impl<L: Link> World<L> {
         &self.parts
     }
 
+    /// The parts of the machine, in order.
+    pub fn into_parts(self) -> Vec<Part<L>>
+        ensures { result.items ≡ self.parts }
+    {
+        self.parts
+    }
+
     /// The same machine.
     pub fn copy(&self) -> Result<World<L>, AllocError>
         ensures { IfOk result (λ w. w ≡ self.now) }
