@@ -1,5 +1,5 @@
 -- What a step, or a packet that comes, changes of the threads at other places: if they can step.
-use Rattle.std.proofs.Common.{ℕ, ◌≡◌, ◌≢◌, ◌<◌, ◌≤◌, ◌==◌, ◌&&◌, ◌||◌, zero, suc, Bool, true, false, cond, List, [], ◌∷◌, length, set, ltb, refl, sym, ap, subst, ◌∙◌, arith, bit_and, Option, Some, None, is_none, is_some}
+use Rattle.std.proofs.Common.{ℕ, ◌≡◌, ◌≤◌, ◌&&◌, zero, suc, false, List, [], ◌∷◌, length, ltb, refl, ap, subst, ◌∙◌, Option, Some, None, is_none, is_some}
 use Rattle.std.proofs.lemmas.List.{get_or-set_other, get_or_past}
 use Rattle.tn_base.specs.declared.op.Op.{Op}
 use Rattle.tn_base.specs.declared.op.Op.TheVariants as op

@@ -1,9 +1,8 @@
 -- A tile at its start.
-use Rattle.std.proofs.Common.{ℕ, ◌≡◌, ◌+◌, ◌-◌, List, [], length, get_or, refl, sym, ap, ◌∙◌, arith, length-append, replicate, IsTrue, None, ◌∷◌, ◌++◌, inl, inr, ◌<◌}
+use Rattle.std.proofs.Common.{ℕ, ◌≡◌, ◌+◌, ◌-◌, List, [], length, get_or, refl, ap, ◌∙◌, arith, length-append, replicate, IsTrue, None, ◌∷◌, ◌++◌, inl, inr, ◌<◌}
 use Rattle.std.proofs.Math.ListN.{get_or-append}
 use Rattle.std.proofs.lemmas.Bool.{cases_lt}
 use Rattle.std.proofs.lemmas.List.{get_or_push, length-replicate}
-use Rattle.tn_base.specs.declared.port.Port.{Port}
 use Rattle.tn_base.specs.declared.port.Port.TheVariants as port
 use Rattle.tn_base.specs.declared.shape.ShapeNumbers.{ShapeNumbers}
 use Rattle.tn_base.specs.Address.{has_tile, in_tile, tile_threads}
@@ -12,7 +11,7 @@ use Rattle.tn_node.specs.PortRows.{no_values}
 use Rattle.tn_slots.proofs.Lists.{replicate_each}
 use Rattle.tn_thread.specs.declared.thread.Thread.{Thread}
 use Rattle.tn_thread.specs.Step.{slot_size}
-use Rattle.tn_tile.specs.Kept.{AreStarts, IsFit, IsThread, OutFits, StartsAt, WellShaped, fresh_tile}
+use Rattle.tn_tile.specs.Kept.{AreStarts, IsThread, OutFits, StartsAt, WellShaped, fresh_tile}
 use Rattle.tn_tile.specs.Receivers.{dead_in, is_dead}
 use Rattle.tn_tile.specs.Step.{no_thread}
 use Rattle.tn_tile.proofs.Dead.{none_dead}

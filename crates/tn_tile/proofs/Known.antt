@@ -1,5 +1,5 @@
 -- What holds inside of every tile holds after each event: the word says which threads can make a step.
-use Rattle.std.proofs.Common.{ℕ, ◌≡◌, ◌≢◌, ◌<◌, ◌≤◌, ◌==◌, Bool, true, false, List, get_or, length, map, slice_set, refl, sym, ap, subst, ◌∙◌, arith, inl, inr, Option, Some, None, IsTrue, is_some, option_map, cond, ◌^◌, pos, ◌-ℤ◌}
+use Rattle.std.proofs.Common.{ℕ, ◌≡◌, ◌≢◌, ◌<◌, ◌≤◌, ◌==◌, Bool, true, false, get_or, length, map, slice_set, refl, sym, ap, subst, ◌∙◌, inl, inr, Option, Some, None, IsTrue, is_some, cond, ◌^◌, pos, ◌-ℤ◌}
 use Rattle.std.specs.Int.{bit_at}
 use Rattle.std.specs.Prelude.{int_lt}
 use Rattle.std.proofs.lemmas.Bool.{cases_eq}
@@ -16,11 +16,11 @@ use Rattle.tn_node.specs.NodeRows.{depart_row as node_departs, departed, departe
 use Rattle.tn_tile.specs.Inside.{KnowsReady}
 use Rattle.tn_tile.specs.Kept.{HasPlace, IsFit, OutFits}
 use Rattle.tn_tile.specs.Passes.{Wakes}
-use Rattle.tn_tile.specs.Ready.{LooksAt, Marks}
-use Rattle.tn_tile.specs.Rows.{accept_row, accepted, came, delivered_from, passed, told, with_node}
+use Rattle.tn_tile.specs.Ready.{LooksAt}
+use Rattle.tn_tile.specs.Rows.{accept_row, came, delivered_from, passed, told, with_node}
 use Rattle.tn_tile.specs.Step.{can_step, no_thread, pending_at, steps_of}
 use Rattle.tn_tile.specs.TileView.{TilePlan, TileState, TileView, with_now}
-use Rattle.tn_tile.proofs.Elsewhere.{Untouched, same_step, steps_other}
+use Rattle.tn_tile.proofs.Elsewhere.{same_step, steps_other}
 use Rattle.tn_tile.proofs.Marked.{marks_look, marks_write}
 use Rattle.tn_tile.proofs.Moved.{steps_fit}
 use Rattle.tn_tile.proofs.Packets.{Accepts, Drops, PassedOn, accept_is, accepts, delivered_fits, passed_drops, passed_fits, passed_on}
@@ -56,13 +56,13 @@ delivered_known v k word new set places t h few w row wakes is looks =
       few = w.few;
       ready = marks_look (λ j. can_step v.plan.shape.fuel j v.now) (λ j. can_step v.plan.shape.fuel j t) word new places w.ready looks
           (λ j small none.
-              let ne = not_named places set k j few is none in
-              let out : bit_at set j ≡ 0 = sym (with_other set k j few ne) ∙ ap (λ m. bit_at m j) (sym is) ∙ none in
-              same_step v.plan.shape.fuel j v.now t (record {
-                thread = ap (λ ts. get_or ts j no_thread) on.threads;
-                pending = ap (λ ps. get_or ps j None) on.pending ∙ get_or-set_other v.now.pending k j None None ne;
-                queue = wakes.kept j small out;
-              }));
+          let ne = not_named places set k j few is none in
+          let out : bit_at set j ≡ 0 = sym (with_other set k j few ne) ∙ ap (λ m. bit_at m j) (sym is) ∙ none in
+          same_step v.plan.shape.fuel j v.now t (record {
+            thread = ap (λ ts. get_or ts j no_thread) on.threads;
+            pending = ap (λ ps. get_or ps j None) on.pending ∙ get_or-set_other v.now.pending k j None None ne;
+            queue = wakes.kept j small out;
+          }));
     }
 
 -- a packet that is taken from a link is passed on, and counted
@@ -103,10 +103,10 @@ accepted_known v p word new set t w row wakes looks =
       few = w.few;
       ready = marks_look (λ j. can_step v.plan.shape.fuel j v.now) (λ j. can_step v.plan.shape.fuel j t) word new set w.ready looks
           (λ j small none. same_step v.plan.shape.fuel j v.now t (record {
-                thread = ap (λ ts. get_or ts j no_thread) threads;
-                pending = ap (λ ps. get_or ps j None) pending;
-                queue = wakes.kept j small none;
-              }));
+            thread = ap (λ ts. get_or ts j no_thread) threads;
+            pending = ap (λ ps. get_or ps j None) pending;
+            queue = wakes.kept j small none;
+          }));
     }
 
 -- the places of a set have what a look needs

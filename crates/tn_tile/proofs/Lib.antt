@@ -1,4 +1,5 @@
 pub mod Dead
+pub mod Deeds
 pub mod Elsewhere
 pub mod Ends
 pub mod Marked

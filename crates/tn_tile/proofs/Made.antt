@@ -1,5 +1,5 @@
 -- One step of the thread at a place, as the code makes it.
-use Rattle.std.proofs.Common.{ℕ, ◌≡◌, ◌<◌, ◌≤◌, ◌==◌, Bool, true, false, cond, List, length, get_or, set, refl, sym, ap, subst, ◌∙◌, arith, Option, Some, None, is_some, is_none, MatchResult, length-set}
+use Rattle.std.proofs.Common.{ℕ, ◌≡◌, ◌<◌, ◌≤◌, ◌==◌, Bool, true, false, cond, List, length, get_or, set, refl, sym, ap, ◌∙◌, arith, Option, Some, None, is_some, MatchResult, length-set}
 use Rattle.std.specs.Int.{bit_at}
 use Rattle.std.specs.declared.result.Result.{Result}
 use Rattle.std.specs.declared.result.Result.TheVariants.{Ok, Err}
@@ -16,12 +16,12 @@ use Rattle.tn_slots.specs.Pool.{Holds, freed, held_by, queue_at, slot_at}
 use Rattle.tn_slots.specs.WellKept.{WellKept}
 use Rattle.tn_slots.proofs.Kept.{queue_short}
 use Rattle.tn_thread.specs.declared.thread.Thread.{Thread}
-use Rattle.tn_thread.specs.Fits.{OpFits, StepFits}
+use Rattle.tn_thread.specs.Fits.{OpFits}
 use Rattle.tn_thread.specs.Sight.{Sight}
-use Rattle.tn_thread.specs.Step.{Stepped, runnable}
-use Rattle.tn_tile.specs.Kept.{IsFit, IsThread, MayAct}
-use Rattle.tn_tile.specs.Receivers.{dead_in, is_dead}
-use Rattle.tn_tile.specs.Step.{asked, acted, can_step, next_step, no_thread, noted, sight_at, step_at_place, stepped, thread_at, with_thread}
+use Rattle.tn_thread.specs.Step.{runnable}
+use Rattle.tn_tile.specs.Kept.{IsFit, MayAct}
+use Rattle.tn_tile.specs.Receivers.{is_dead}
+use Rattle.tn_tile.specs.Step.{asked, acted, can_step, next_step, no_thread, noted, sight_at, thread_at}
 use Rattle.tn_tile.specs.TileView.{TilePlan, TileState}
 use Rattle.tn_tile.specs.Words.{KnowsDead}
 use Rattle.tn_tile.proofs.Dead.{dead_kept, dead_more}

@@ -1,5 +1,5 @@
 -- A step keeps what holds of every tile's state.
-use Rattle.std.proofs.Common.{ℕ, ◌≡◌, ◌<◌, ◌≤◌, ◌+◌, ◌/◌, zero, suc, Bool, true, List, [], length, set, refl, sym, ap, subst, ◌∙◌, arith, length-set, Option, Some, None, slice_get}
+use Rattle.std.proofs.Common.{ℕ, ◌≡◌, ◌<◌, ◌≤◌, ◌/◌, zero, suc, true, List, [], length, refl, sym, subst, ◌∙◌, arith, length-set, Option, Some, None, slice_get}
 use Rattle.std.proofs.lemmas.Bool.{and_from, and_parts, le-leb, ltb-true}
 use Rattle.std.proofs.lemmas.List.{length-map}
 use Rattle.rv_isa.specs.declared.instr.Instr.{Instr}
@@ -18,10 +18,10 @@ use Rattle.tn_thread.specs.declared.state.ThreadState.TheVariants as state
 use Rattle.tn_thread.specs.declared.thread.Thread.{Thread}
 use Rattle.tn_thread.specs.Fits.{OpFits, StepFits}
 use Rattle.tn_thread.specs.Sight.{Sight}
-use Rattle.tn_thread.specs.Step.{Stepped, resumed_by, runnable, stepped as thread_stepped, turned}
+use Rattle.tn_thread.specs.Step.{Stepped, runnable, turned}
 use Rattle.tn_thread.proofs.Fits.{resumed_fits, stepped_fits, turned_resumes, turned_runs}
 use Rattle.tn_tile.specs.Kept.{IsFit, IsThread}
-use Rattle.tn_tile.specs.Step.{Fetched, acted, can_step, fetched_at, fetched_by, next_step, sight_at, step_at_place, stepped, steps_of, thread_at, with_thread}
+use Rattle.tn_tile.specs.Step.{acted, can_step, fetched_at, fetched_by, next_step, sight_at, step_at_place, stepped, steps_of, thread_at, with_thread}
 use Rattle.tn_tile.specs.TileView.{TilePlan, TileState}
 use Rattle.tn_tile.proofs.Shaped.{pending_set, pool_same, taken_sizes, threads_set}
 use Rattle.tn_tile.proofs.Steps.{taken as took}

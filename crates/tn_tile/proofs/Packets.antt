@@ -1,6 +1,5 @@
 -- Packets that are delivered, sent on, and taken from links.
 use Rattle.std.proofs.Common.{ℕ, ◌≡◌, ◌<◌, ◌≤◌, ◌+◌, ◌^◌, ◌==◌, ◌&&◌, Bool, true, false, cond, List, [], ◌∷◌, length, get_or, set, zero, suc, refl, sym, ap, subst, ◌∙◌, arith, inl, inr, ltb, Option, Some, None, is_some, is_none, option_map, MatchOption, IsTrue}
-use Rattle.std.specs.Int.{bit_at}
 use Rattle.std.specs.Int.RustNames.{count_ones}
 use Rattle.std.proofs.lemmas.Bool.{and_parts, cases_lt, cond_both, eqb-true}
 use Rattle.std.proofs.lemmas.List.{get_or_past}
@@ -18,7 +17,7 @@ use Rattle.tn_base.specs.Message.{has_packet}
 use Rattle.tn_base.specs.Ports.{same_board, tile_port, tile_x, tile_y, to_router, to_tile, toward}
 use Rattle.tn_node.specs.NodeRows.{can_arrive, waits}
 use Rattle.tn_node.specs.PortRows.{at}
-use Rattle.tn_slots.specs.Pool.{first_free, put_at, queue_at}
+use Rattle.tn_slots.specs.Pool.{first_free, put_at}
 use Rattle.tn_slots.specs.PoolModel.{PoolModel}
 use Rattle.tn_slots.proofs.Owed.{appended_no, length-appended}
 use Rattle.tn_thread.specs.declared.thread.Thread.{Thread}
@@ -285,9 +284,9 @@ stored_at_wakes None set p s t below e = cc e
 stored_at_wakes (Some k) set p s t below e =
     let is : put_at k p.bytes set s.pool ≡ t.pool = ap (λ o. pool_of o) e in
     subst (Wakes set s.pool) is (put_wakes s.pool k set p.bytes below) where
-  pool_of : Option TileState → PoolModel
-  pool_of None = s.pool
-  pool_of (Some x) = x.pool
+      pool_of : Option TileState → PoolModel
+      pool_of None = s.pool
+      pool_of (Some x) = x.pool
 
 pub stored_wakes : (set : ℕ) (p : Packet) (s t : TileState) → set < 2 ^ length s.pool.queues → stored set p s ≡ Some t → Wakes set s.pool t.pool
 stored_wakes set p s t below e = by (set == 0) refl e where

@@ -1,5 +1,5 @@
 -- What holds of every tile's state holds after each change of a part of it.
-use Rattle.std.proofs.Common.{ℕ, ◌≡◌, ◌<◌, ◌≤◌, ◌+◌, Bool, true, List, [], ◌∷◌, length, map, set, refl, sym, subst, ◌∙◌, arith, inl, inr, IsTrue, length-set, Option, Some, None, MatchOption}
+use Rattle.std.proofs.Common.{ℕ, ◌≡◌, ◌<◌, List, [], ◌∷◌, length, map, set, refl, ◌∙◌, inl, inr, IsTrue, length-set, Option, None, MatchOption}
 use Rattle.std.proofs.lemmas.Bool.{cases_eq, cond_both}
 use Rattle.std.proofs.lemmas.List.{get_or-map, get_or-set_same, get_or-set_other, length-map}
 use Rattle.tn_base.specs.declared.message.Packet.{Packet}
@@ -7,7 +7,7 @@ use Rattle.tn_base.specs.declared.port.Port.{Port}
 use Rattle.tn_base.specs.declared.shape.ShapeNumbers.{ShapeNumbers}
 use Rattle.tn_base.specs.Address.{in_tile, tile_threads}
 use Rattle.tn_node.specs.declared.ports.Ports.{Ports}
-use Rattle.tn_node.specs.PortRows.{at, with_at}
+use Rattle.tn_node.specs.PortRows.{with_at}
 use Rattle.tn_node.proofs.PortLaws.{each_set}
 use Rattle.tn_slots.specs.PoolModel.{PoolModel}
 use Rattle.tn_slots.specs.Pool.{put_at, queue_at, taken, taken_from}

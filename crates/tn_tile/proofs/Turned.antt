@@ -1,10 +1,9 @@
 -- What steps that ask nothing of the tile make of it: they are steps of the thread at its place.
-use Rattle.std.proofs.Common.{ℕ, ◌≡◌, ◌≤◌, ◌<◌, ◌+◌, ◌/◌, suc, zero, List, [], ◌∷◌, Bool, true, length, get_or, set, refl, sym, ap, subst, ◌∙◌, arith, Option, Some, None, option_and_then, option_map, slice_get}
+use Rattle.std.proofs.Common.{ℕ, ◌≡◌, ◌≤◌, ◌<◌, ◌+◌, ◌/◌, suc, zero, List, [], ◌∷◌, true, length, get_or, set, refl, sym, ap, subst, ◌∙◌, arith, Option, Some, None, option_and_then, option_map, slice_get}
 use Rattle.std.proofs.lemmas.Bool.{lt-ltb}
 use Rattle.std.proofs.lemmas.List.{get_or-set_same, length-set, set-get_or}
 use Rattle.rv_isa.specs.declared.instr.Instr.{Instr}
 use Rattle.rv_exec.specs.Exec.{regs_after, step_at}
-use Rattle.tn_base.specs.Address.{in_tile, tile_threads}
 use Rattle.tn_thread.specs.declared.state.ThreadState.{ThreadState}
 use Rattle.tn_thread.specs.declared.state.ThreadState.TheVariants as state
 use Rattle.tn_thread.specs.declared.thread.Thread.{Thread}
@@ -14,8 +13,7 @@ use Rattle.tn_thread.specs.Step.{Stepped, runnable, turned}
 use Rattle.tn_thread.proofs.AloneSteps.{Stays, alone_is, caught, stays_self, stays_more}
 use Rattle.tn_thread.proofs.Fits.{turned_runs}
 use Rattle.tn_tile.specs.Alone.{RanAlone, alone_at, alone_steps, next_alone, went_alone}
-use Rattle.tn_tile.specs.Kept.{IsFit, IsThread}
-use Rattle.tn_tile.specs.Receivers.{dead_in, is_dead}
+use Rattle.tn_tile.specs.Receivers.{is_dead}
 use Rattle.tn_tile.specs.Step.{Fetched, acted, can_step, fetched_at, fetched_by, next_step, no_thread, sight_at, step_at_place, stepped, steps_of, thread_at, with_thread}
 use Rattle.tn_tile.specs.TileView.{TilePlan, TileState}
 use Rattle.tn_tile.specs.Words.{KnowsDead}

@@ -1,11 +1,11 @@
 -- Turns: the longest one, and none.
-use Rattle.std.proofs.Common.{◌≡◌, ℕ, ◌+◌, ◌-◌, ◌<◌, ◌≤◌, ◌&&◌, zero, suc, Bool, true, false, cond, Some, None, is_some, refl, sym, ap, ◌∙◌, arith, inl, inr, leb, option_map}
+use Rattle.std.proofs.Common.{◌≡◌, ℕ, ◌+◌, ◌-◌, ◌<◌, ◌≤◌, ◌&&◌, zero, suc, Bool, true, false, cond, Some, None, is_some, refl, sym, ap, ◌∙◌, arith, inl, inr, leb}
 use Rattle.std.specs.declared.option.Option.{Option}
 use Rattle.std.proofs.lemmas.Bool.{and_left, and_parts, and_right, cases_lt, cond-false, le-leb, leb-true, lt-leb}
 use Rattle.tn_base.specs.Address.{place_in_tile}
 use Rattle.tn_tile.specs.Rows.{can_count, is_here, turn_row}
 use Rattle.tn_tile.specs.Step.{can_step, stepped, steps_of}
-use Rattle.tn_tile.specs.TileView.{TilePlan, TileState, TileView, now_by, with_now}
+use Rattle.tn_tile.specs.TileView.{TilePlan, TileState, TileView, now_by}
 use Rattle.tn_tile.specs.Turns.{StepsUpTo}
 use Rattle.tn_tile.proofs.Steps.{steps_fewer, steps_none, steps_stop, taken}
 

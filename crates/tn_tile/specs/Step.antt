@@ -7,7 +7,6 @@ use Rattle.tn_base.specs.declared.effect.Effect.TheVariants as effect
 use Rattle.tn_base.specs.declared.event.Trap.{Trap}
 use Rattle.tn_base.specs.declared.event.Trap.TheVariants as trap
 use Rattle.tn_base.specs.declared.ids.ThreadId.{ThreadId}
-use Rattle.tn_base.specs.declared.message.Dest.{Dest}
 use Rattle.tn_base.specs.declared.message.Packet.{Packet}
 use Rattle.tn_base.specs.declared.op.Op.{Op}
 use Rattle.tn_base.specs.declared.op.Op.TheVariants as op

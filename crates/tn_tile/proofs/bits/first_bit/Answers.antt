@@ -1,4 +1,3 @@
-use Rattle.std.proofs.Common.{◌<◌, ◌/◌, ◌^◌}
 use Rattle.tn_tile.proofs.Marked.{first_is, no_bit}
 use Rattle.tn_tile.proofs.bits.first_bit.Goals as goal
 

@@ -1,13 +1,4 @@
 use Rattle.tn_tile.proofs.Turns.{shorter_turn}
-use Rattle.tn_tile.proofs.Made.{few_letters}
-use Rattle.tn_tile.proofs.Turned.{alone_dead}
-use Rattle.tn_tile.proofs.Dead.{dead_told}
-use Rattle.tn_tile.proofs.Elsewhere.{steps_other}
-use Rattle.tn_tile.proofs.Marked.{sends_none}
-use Rattle.tn_tile.proofs.Moved.{steps_fit}
-use Rattle.tn_tile.proofs.Packets.{set_back}
-use Rattle.tn_tile.proofs.Fresh.{fresh_shaped}
-use Rattle.tn_tile.proofs.Known.{departed_known}
 use Rattle.tn_tile.proofs.laws.law_turns.Goals as goal
 
 pub returns : goal.returns

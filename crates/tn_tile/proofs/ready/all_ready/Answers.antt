@@ -1,5 +1,4 @@
-use Rattle.std.proofs.Common.{◌≡◌, ◌≤◌, ◌<◌, ◌∙◌, ap, length, arith, rules}
-use Rattle.tn_base.specs.Address.{tile_threads}
+use Rattle.std.proofs.Common.{◌∙◌, ap, rules}
 use Rattle.tn_tile.specs.Step.{can_step}
 use Rattle.tn_tile.proofs.Elsewhere.{past_last}
 use Rattle.tn_tile.proofs.Marked.{below_all, below_more, below_none}

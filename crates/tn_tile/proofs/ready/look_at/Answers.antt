@@ -22,8 +22,8 @@ pub loop-rest-preserved : goal.loop-rest-preserved
 loop-rest-preserved c =
     let b : bit_at c.loop-rest.rest c.lowest_bit-k.result ≡ 1 = rw (c.bits-in-loop-rest.ensures) at c.lowest_bit-k.ensures.one in
     rw c.without-rest.ensures (
-      looking_more c.args.ready c.loop-rest.seen c.write_bit-seen.result c.args.places c.loop-rest.rest c.lowest_bit-k.result (λ k. can_step c.args.fuel k c.args.state.now)
-          c.lowest_bit-k.ensures.within b c.loop-rest.invariant (c.write_bit-seen.ensures.written ∙ c.can_step.ensures) c.write_bit-seen.ensures.others
+    looking_more c.args.ready c.loop-rest.seen c.write_bit-seen.result c.args.places c.loop-rest.rest c.lowest_bit-k.result (λ k. can_step c.args.fuel k c.args.state.now)
+    c.lowest_bit-k.ensures.within b c.loop-rest.invariant (c.write_bit-seen.ensures.written ∙ c.can_step.ensures) c.write_bit-seen.ensures.others
     )
 
 pub returns : goal.returns

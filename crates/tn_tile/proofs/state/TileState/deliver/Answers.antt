@@ -1,7 +1,6 @@
 use Rattle.std.proofs.Common.{◌≡◌, ◌∙◌, ap, sym, slice_set, Some, None}
 use Rattle.tn_tile.specs.Rows.{delivered_from, passed}
 use Rattle.tn_tile.specs.Step.{pending_at}
-use Rattle.tn_tile.specs.TileView.{TileState}
 use Rattle.tn_tile.proofs.Packets.{put_back}
 use Rattle.tn_tile.proofs.state.TileState.deliver.Goals as goal
 

@@ -1,6 +1,5 @@
 use Rattle.std.proofs.Common.{sym, ◌∙◌}
 use Rattle.std.proofs.lemmas.List.{length-map}
-use Rattle.tn_tile.specs.Rows.{told}
 use Rattle.tn_tile.proofs.Dead.{dead_told}
 use Rattle.tn_tile.proofs.threads.Threads.tell.Goals as goal
 

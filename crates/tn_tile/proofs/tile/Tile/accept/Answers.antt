@@ -1,4 +1,4 @@
-use Rattle.std.proofs.Common.{◌≡◌, ◌≤◌, arith, length}
+use Rattle.std.proofs.Common.{◌≤◌, arith, length}
 use Rattle.tn_tile.specs.Kept.{IsFit}
 use Rattle.tn_tile.specs.Ready.{LooksAt}
 use Rattle.tn_tile.specs.Step.{can_step}

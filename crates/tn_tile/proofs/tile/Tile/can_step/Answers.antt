@@ -1,4 +1,4 @@
-use Rattle.std.proofs.Common.{◌≤◌, ◌<◌, ◌∙◌, arith}
+use Rattle.std.proofs.Common.{◌<◌, ◌∙◌, arith}
 use Rattle.tn_base.specs.Address.{tile_threads}
 use Rattle.tn_tile.proofs.tile.Tile.can_step.Goals as goal
 

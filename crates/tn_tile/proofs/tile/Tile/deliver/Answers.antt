@@ -1,4 +1,4 @@
-use Rattle.std.proofs.Common.{◌≡◌, ◌<◌, true, arith, refl, Some}
+use Rattle.std.proofs.Common.{◌≡◌, ◌<◌, true, arith, refl}
 use Rattle.tn_base.specs.Address.{tile_threads}
 use Rattle.tn_tile.specs.Kept.{IsFit}
 use Rattle.tn_tile.specs.Ready.{LooksAt}
