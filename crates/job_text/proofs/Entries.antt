@@ -4,6 +4,7 @@ use Rattle.std.specs.declared.result.Result.TheVariants.{Ok}
 use Rattle.std.specs.Fmt.{decimal}
 use Rattle.std.proofs.Math.Facts.{Fits-of_lt}
 use Rattle.std.proofs.lemmas.Bool.{le-leb}
+use Rattle.tn_text.specs.Words.{spaced}
 use Rattle.tn_text.specs.Hex.{hex_text}
 use Rattle.tn_text.proofs.Printed.{hex_read_back}
 use Rattle.job_text.specs.declared.job.FillLine.{FillLine}
@@ -13,7 +14,7 @@ use Rattle.job_text.specs.declared.job.ScriptLine.{ScriptLine}
 use Rattle.job_text.specs.declared.draft.Place.{Place}
 use Rattle.job_text.specs.declared.draft.Place.TheVariants.{AtSections}
 use Rattle.job_text.specs.declared.draft.Draft.{Draft}
-use Rattle.job_text.specs.Printed.{spaced, feed, fill_text, script_text, item_text}
+use Rattle.job_text.specs.Printed.{feed, fill_text, script_text, item_text}
 use Rattle.job_text.specs.Text.{entry_line}
 use Rattle.job_text.specs.WellFormed.{named_by, AreBytes, IsFill, IsScript, fill_unlined, script_unlined}
 use Rattle.job_text.proofs.Words.{decimal_word, decimal_value, hex_word}

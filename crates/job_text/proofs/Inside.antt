@@ -17,7 +17,7 @@ use Rattle.job_text.specs.declared.draft.Draft.{Draft}
 use Rattle.job_text.specs.Printed.{feed, word_text, beat_text, end_text}
 use Rattle.job_text.specs.Text.{content_line, word_line, word_by, beat_line, beat_by, code_ended, table_ended, asm_ended, graph_ended, text_added}
 use Rattle.job_text.specs.WellFormed.{AreBytes, IsBeat, beat_unlined, IsTextLine, fed}
-use Rattle.job_text.proofs.Clean.{IsWord, IsLine, line_of_words, words_of-line}
+use Rattle.tn_text.proofs.Clean.{IsWord, IsLine, line_of_words, words_of-line}
 use Rattle.job_text.proofs.Words.{hex_word}
 use Rattle.job_text.proofs.Leads.{Leads, leads_none, leads_then, leads_line, leads_content}
 use Rattle.job_text.proofs.Entries.{fit_bytes}

@@ -5,6 +5,8 @@ use Rattle.std.specs.declared.result.Result.TheVariants.{Ok, Err}
 use Rattle.std.specs.List.{AllByRecursion}
 use Rattle.std.proofs.lemmas.Bool.{cases_Bool}
 use Rattle.std.proofs.lemmas.Bool.Decides.{nat_tests}
+use Rattle.tn_text.specs.declared.numbers.Numeral.TheVariants.{Value}
+use Rattle.tn_text.specs.NumberLists.{numbers_in}
 use Rattle.job_text.specs.declared.keyword.Setting.{Setting}
 use Rattle.job_text.specs.declared.keyword.Setting.TheVariants.{Slots, Link, Mem, Fuel, Turn}
 use Rattle.job_text.specs.Keyword.{with_setting}
@@ -23,7 +25,6 @@ use Rattle.job_text.specs.declared.draft.Place.{Place}
 use Rattle.job_text.specs.declared.draft.Place.TheVariants.{AtHeader, AtShape, AtSettings, AtSections, InCode, InAsm, InTable, InGraph}
 use Rattle.job_text.specs.declared.draft.Draft.{Draft}
 use Rattle.job_text.specs.Seen.{has, with_number}
-use Rattle.job_text.specs.Arguments.{exactly}
 use Rattle.job_text.specs.Printed.{feed}
 use Rattle.job_text.specs.Text.{◌>>=◌, start, board_number, shape_with, all_at, code_ended, table_ended, asm_ended, graph_ended, text_added}
 use Rattle.job_text.specs.WellFormed.{named_by, IsOwner, IsCode, IsTextLine, fed, IsText, IsAsm, IsFill, IsBeat, IsTable, IsScriptText, IsScript, IsGraph, AreNumbers}
@@ -81,7 +82,7 @@ OpenIs _ = Unit {0}
 
 -- the text of a graph as far as it is read
 abbrev pub IsGraphBegun : List ℕ → Type 0
-IsGraphBegun text = (head rest : List ℕ) × (words : List (List ℕ)) × (ns : List ℕ) × (text ≡ head ++ feed ++ rest) × IsTextLine head × (words_of head ≡ codes "graph" ∷ words) × (exactly 2 words ≡ Ok ns) × IsText rest
+IsGraphBegun text = (head rest : List ℕ) × (words : List (List ℕ)) × (ns : List ℕ) × (text ≡ head ++ feed ++ rest) × IsTextLine head × (words_of head ≡ codes "graph" ∷ words) × (numbers_in 2 words ≡ Value ns) × IsText rest
 
 abbrev pub TextIs : Place → List ℕ → Type 0
 TextIs (InGraph line) text = IsGraphBegun text
@@ -494,7 +495,7 @@ good_table d n x y h c free hx hy =
       boards_once = after;
     }
 
-pub good_graph : (d : Draft) (n : ℕ) (head : List ℕ) (words : List (List ℕ)) (ns : List ℕ) → Good d → Closed d → IsTextLine head → words_of head ≡ codes "graph" ∷ words → exactly 2 words ≡ Ok ns → Good (record d { place = InGraph n; text = head ++ feed })
+pub good_graph : (d : Draft) (n : ℕ) (head : List ℕ) (words : List (List ℕ)) (ns : List ℕ) → Good d → Closed d → IsTextLine head → words_of head ≡ codes "graph" ∷ words → numbers_in 2 words ≡ Value ns → Good (record d { place = InGraph n; text = head ++ feed })
 good_graph d n head words ns h c line is numbers = record {
   version = h.version;
   same = h.same;

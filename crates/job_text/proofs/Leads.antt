@@ -3,15 +3,15 @@ use Rattle.std.proofs.Common.{◌≡◌, ◌⊎◌, ℕ, ◌+◌, true, List, []
 use Rattle.std.specs.declared.result.Result.{Result}
 use Rattle.std.specs.declared.result.Result.TheVariants.{Ok}
 use Rattle.tn_text.specs.Lines.{lines_of}
-use Rattle.tn_text.specs.Words.{words_of}
+use Rattle.tn_text.specs.Words.{words_of, spaced}
 use Rattle.tn_text.specs.Content.{content_of, is_plain}
 use Rattle.job_text.specs.declared.job.JobKind.{JobKind}
 use Rattle.job_text.specs.declared.draft.Place.{Place}
 use Rattle.job_text.specs.declared.draft.Place.TheVariants.{AtSettings, AtSections}
 use Rattle.job_text.specs.declared.draft.Draft.{Draft}
-use Rattle.job_text.specs.Printed.{spaced, feed}
+use Rattle.job_text.specs.Printed.{feed}
 use Rattle.job_text.specs.Text.{job_after, step, read_on, content_line, entry_line}
-use Rattle.job_text.proofs.Clean.{IsLine, IsWord, AreWords, lines_of-line, plain_line, content_line_is, line_of_words, words_of-line}
+use Rattle.tn_text.proofs.Clean.{IsLine, IsWord, AreWords, lines_of-line, plain_line, content_line_is, line_of_words, words_of-line}
 
 -- behind n lines, this text makes of the draft d the draft e behind m lines, whatever follows
 pub record Leads (d : Draft) (n : ℕ) (text : List ℕ) (e : Draft) (m : ℕ) : Type 0 where

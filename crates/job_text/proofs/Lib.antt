@@ -1,5 +1,3 @@
-pub mod Joined
-pub mod Clean
 pub mod Words
 pub mod Leads
 pub mod Heads
@@ -15,3 +13,4 @@ pub mod Keeps
 pub mod Taken
 pub mod ReadJob
 pub mod Numbered
+pub mod Same

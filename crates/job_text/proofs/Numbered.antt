@@ -6,18 +6,21 @@ use Rattle.std.specs.List.{AllByRecursion, slice_index}
 use Rattle.std.specs.Str.{bytes_eq}
 use Rattle.std.specs.Option.{is_some}
 use Rattle.std.proofs.lemmas.Bool.{cases_Bool}
+use Rattle.tn_text.specs.declared.numbers.Numeral.{Numeral}
+use Rattle.tn_text.specs.declared.numbers.Numeral.TheVariants.{Value, TooLarge, NoNumber}
+use Rattle.tn_text.specs.NumberLists.{numbers_in, numbers_of}
 use Rattle.tn_text.specs.Content.{content_of, is_plain}
 use Rattle.tn_text.specs.Hex.{hex_bytes_of, hex_array_of, hex_word_of}
 use Rattle.tn_text.specs.Lines.{is_feed, lines_of, onto_line}
 use Rattle.tn_text.specs.Numbers.{number_of}
-use Rattle.tn_text.specs.Words.{words_of}
+use Rattle.tn_text.specs.Words.{words_of, one_of, three_of, two_of}
 use Rattle.job_text.specs.declared.draft.Draft.{Draft}
 use Rattle.job_text.specs.declared.draft.Place.{Place}
 use Rattle.job_text.specs.declared.draft.Place.TheVariants.{AtHeader, AtShape, AtSettings, AtSections, InCode, InAsm, InTable, InGraph}
 use Rattle.job_text.specs.declared.job.Job.{Job}
-use Rattle.job_text.specs.declared.job.JobFault.{JobFault}
+use Rattle.tn_text.specs.declared.stop.Fault.{Fault}
 use Rattle.job_text.specs.declared.job.JobKind.{JobKind}
-use Rattle.job_text.specs.declared.job.JobKind.TheVariants.{NoShape, BadLine, BadNumber, Twice, TooMany}
+use Rattle.job_text.specs.declared.job.JobKind.TheVariants.{NoShape, BadLine, Twice, TooMany}
 use Rattle.job_text.specs.declared.job.Owner.{Owner}
 use Rattle.job_text.specs.declared.job.Owner.TheVariants.{All, Tile}
 use Rattle.job_text.specs.declared.job.ScriptText.TheVariants.{Send}
@@ -25,7 +28,7 @@ use Rattle.job_text.specs.declared.job.TextSection.{TextSection}
 use Rattle.job_text.specs.declared.keyword.Keyword.{Keyword}
 use Rattle.job_text.specs.declared.keyword.Keyword.TheVariants.{Number, Code, Asm, Fill, Table, Host, Graph}
 use Rattle.job_text.specs.declared.keyword.Setting.{Setting}
-use Rattle.job_text.specs.Arguments.{exactly, numbers_of, one_of, two_of, three_of, one_number_of, number_in, owner_in, pair_in}
+use Rattle.job_text.specs.Arguments.{given, number_in, owner_in, pair_in}
 use Rattle.job_text.specs.Keyword.{keyword_of, setting_in}
 use Rattle.job_text.specs.Seen.{has}
 use Rattle.job_text.specs.Text.{◌>>=◌, start, version_by, headed, header_line, shaped, shape_line, set_once, setting_line, owner_named, board_number, table_at, graph_at, fill_bytes, fill_by, scripted, send_bytes, send_by, idle_line, host_line, keyword_line, entry_line, word_added, word_by, word_line, beat_added, beat_by, beat_line, asm_line, graph_line, content_line, step, read_on, ended, job_after, job_of}
@@ -33,8 +36,8 @@ use Rattle.job_text.specs.WellFormed.{IsTextLine}
 use Rattle.job_text.proofs.Contents.{content_good}
 use Rattle.job_text.proofs.Inside.{lines_of-unbroken}
 use Rattle.job_text.proofs.Keeps.{all_push, bind_ok}
-use Rattle.job_text.specs.declared.job.JobStop.{JobStop}
-use Rattle.job_text.specs.Gives.{Gives}
+use Rattle.tn_text.specs.declared.stop.Stop.{Stop}
+use Rattle.tn_text.specs.Gives.{Gives}
 use Rattle.job_text.specs.Numbered.{AreNumbered, IsNumbered}
 
 -- How many lines a text has.
@@ -97,15 +100,15 @@ at_header_line : (d e : Draft) (n : ℕ) (ws : List (List ℕ)) → d.place ≡ 
 at_header_line d e n [] p a o t = kept d e n t a (rw p o)
 at_header_line d e n (w ∷ ws) p a o t = at_header d e n (version_by (two_of (w ∷ ws))) a o t
 
-at_shaped : (d e : Draft) (n : ℕ) (r : Result (List ℕ) JobKind) → AreWithin n d → d.text ≡ [] → shaped d n r ≡ Ok e → Fits n e
-at_shaped d e n (Ok ns) a o t = kept _ e n t a o
-at_shaped d e n (Err BadNumber) a o t = cc
-at_shaped d e n (Err _) a o t = cc
+at_shaped : (d e : Draft) (n : ℕ) (r : Numeral (List ℕ)) → AreWithin n d → d.text ≡ [] → shaped d n r ≡ Ok e → Fits n e
+at_shaped d e n (Value ns) a o t = kept _ e n t a o
+at_shaped d e n TooLarge a o t = cc
+at_shaped d e n NoNumber a o t = cc
 
 at_shape : (d e : Draft) (n m : ℕ) (ws : List (List ℕ)) → d.place ≡ AtShape m → AreWithin n d → d.text ≡ [] → shape_line d n ws ≡ Ok e → Fits n e
 at_shape d e n m [] p a o t = kept d e n t a (rw p o)
 at_shape d e n m (w ∷ ws) p a o t =
-    ⊎_elim (λ f. let k : shaped d n (exactly 6 ws) ≡ Ok e = rw f at t in at_shaped d e n (exactly 6 ws) a o k)
+    ⊎_elim (λ f. let k : shaped d n (numbers_in 6 ws) ≡ Ok e = rw f at t in at_shaped d e n (numbers_in 6 ws) a o k)
     (λ f. let k : Err NoShape ≡ Ok e = rw f at t in cc) (cases_Bool (bytes_eq w (codes "shape")))
 
 -- Lines behind the shape and outside sections.
@@ -147,15 +150,15 @@ at_table d e n x y a o t =
 at_fill : (d e : Draft) (n : ℕ) (ws : Option (List ℕ × List ℕ × List ℕ)) → AreWithin n d → d.text ≡ [] → fill_by d n ws ≡ Ok e → Fits n e
 at_fill d e n None a o t = cc
 at_fill d e n (Some ws) a o t =
-    let first = bind_ok (fill_bytes (hex_bytes_of ws.2)) (λ bytes. pair_in (numbers_of (ws.0 ∷ ws.1 ∷ [])) >>= λ ns. Ok _) e t in
-    let next = bind_ok (pair_in (numbers_of (ws.0 ∷ ws.1 ∷ []))) (λ ns. Ok _) e first.2 in
+    let first = bind_ok (fill_bytes (hex_bytes_of ws.2)) (λ bytes. pair_in (given (numbers_of (ws.0 ∷ ws.1 ∷ []))) >>= λ ns. Ok _) e t in
+    let next = bind_ok (pair_in (given (numbers_of (ws.0 ∷ ws.1 ∷ [])))) (λ ns. Ok _) e first.2 in
     kept _ e n next.2 a o
 
 at_send : (d e : Draft) (n : ℕ) (ws : Option (List ℕ × List ℕ)) → AreWithin n d → d.text ≡ [] → send_by d n ws ≡ Ok e → Fits n e
 at_send d e n None a o t = cc
 at_send d e n (Some ws) a o t =
-    let first = bind_ok (send_bytes (hex_bytes_of ws.1)) (λ bytes. one_number_of (number_of ws.0) >>= λ thread. Ok (scripted d n (Send thread bytes))) e t in
-    let next = bind_ok (one_number_of (number_of ws.0)) (λ thread. Ok (scripted d n (Send thread first.0))) e first.2 in
+    let first = bind_ok (send_bytes (hex_bytes_of ws.1)) (λ bytes. given (number_of ws.0) >>= λ thread. Ok (scripted d n (Send thread bytes))) e t in
+    let next = bind_ok (given (number_of ws.0)) (λ thread. Ok (scripted d n (Send thread first.0))) e first.2 in
     kept _ e n next.2 a o
 
 at_idle : (d e : Draft) (n : ℕ) (ws : List (List ℕ)) → AreWithin n d → d.text ≡ [] → idle_line d n ws ≡ Ok e → Fits n e
@@ -187,10 +190,10 @@ at_keyword d e n l ws (Some Asm) a o t =
     let b = bind_ok (owner_in ws) (λ w. owner_named d w >>= λ f. Ok (record f { place = InAsm n w })) e t in at_asm d e n b.0 a o b.2
 at_keyword d e n l ws (Some Fill) a o t = at_fill d e n (three_of ws) a o t
 at_keyword d e n l ws (Some Table) a o t =
-    let b = bind_ok (exactly 2 ws) (λ ns. table_at d n (slice_index ns 0) (slice_index ns 1)) e t in at_table d e n (slice_index b.0 0) (slice_index b.0 1) a o b.2
+    let b = bind_ok (given (numbers_in 2 ws)) (λ ns. table_at d n (slice_index ns 0) (slice_index ns 1)) e t in at_table d e n (slice_index b.0 0) (slice_index b.0 1) a o b.2
 at_keyword d e n l ws (Some Host) a o t = at_host d e n ws a o t
 at_keyword d e n l ws (Some Graph) a o t =
-    let b = bind_ok (exactly 2 ws) (λ ns. graph_at d n l) e t in at_graph d e n l a b.2
+    let b = bind_ok (given (numbers_in 2 ws)) (λ ns. graph_at d n l) e t in at_graph d e n l a b.2
 
 at_entry : (d e : Draft) (n : ℕ) (l : List ℕ) (ws : List (List ℕ)) → IsOpen n d.place d.text → AreWithin n d → d.text ≡ [] → entry_line d n l ws ≡ Ok e → Fits n e
 at_entry d e n l [] p a o t = kept d e n t a p
@@ -274,7 +277,7 @@ ended_fits (InAsm line owner) d n job a t = cc
 ended_fits (InTable line x y) d n job a t = cc
 ended_fits (InGraph line) d n job a t = cc
 
-read_fits : (r : Result Draft JobKind) (n k : ℕ) (more : Draft → Result Job JobFault) (job : Job) → ((e : Draft) → r ≡ Ok e → more e ≡ Ok job → Ends k job) → read_on n r more ≡ Ok job → Ends k job
+read_fits : (r : Result Draft JobKind) (n k : ℕ) (more : Draft → Result Job (Fault JobKind)) (job : Job) → ((e : Draft) → r ≡ Ok e → more e ≡ Ok job → Ends k job) → read_on n r more ≡ Ok job → Ends k job
 read_fits (Ok e) n k more job h t = h e refl t
 read_fits (Err kind) n k more job h t = cc
 
@@ -292,6 +295,6 @@ numbered : (lines : List (List ℕ)) (job : Job) → length lines < 2 ^ 32 - 1 �
 numbered lines job h t =
     numbered_by (length lines) job.asms h (after_fits lines start 0 (length lines) job (omega arith) (record { asms = tt; open_is = refl }) t)
 
-pub gives_numbered : (r : Result Job JobStop) (lines : List (List ℕ)) → length lines < 2 ^ 32 - 1 → Gives r (job_of lines) → IfOk r (λ job. AreNumbered job)
+pub gives_numbered : (r : Result Job (Stop (Fault JobKind))) (lines : List (List ℕ)) → length lines < 2 ^ 32 - 1 → Gives r (job_of lines) → IfOk r (λ job. AreNumbered job)
 gives_numbered (Ok job) lines few h = numbered lines job few h
 gives_numbered (Err stop) lines few h = tt

@@ -5,12 +5,12 @@ use Rattle.std.specs.declared.result.Result.TheVariants.{Ok, Err}
 use Rattle.std.specs.Option.{is_some, option_and_then}
 use Rattle.job_text.specs.declared.job.JobKind.{JobKind}
 use Rattle.job_text.specs.declared.job.Job.{Job}
-use Rattle.job_text.specs.declared.job.JobFault.{JobFault}
-use Rattle.job_text.specs.declared.job.JobStop.{JobStop}
+use Rattle.tn_text.specs.declared.stop.Fault.{Fault}
+use Rattle.tn_text.specs.declared.stop.Stop.{Stop}
 use Rattle.job_text.specs.declared.draft.Place.{Place}
 use Rattle.job_text.specs.declared.draft.Place.TheVariants.{AtHeader, AtShape, AtSettings, AtSections, InCode, InAsm, InTable, InGraph}
 use Rattle.job_text.specs.declared.draft.Draft.{Draft}
-use Rattle.job_text.specs.Gives.{Gives}
+use Rattle.tn_text.specs.Gives.{Gives}
 use Rattle.job_text.specs.Seen.{has}
 use Rattle.job_text.specs.Text.{start, step, read_on, ended, job_after, job_of}
 use Rattle.job_text.specs.WellFormed.{named_by, owner_allowed, code_allowed, asm_allowed, table_allowed, IsWellFormed}
@@ -73,7 +73,7 @@ ended_good (InAsm line owner) d n job e h t = cc
 ended_good (InTable line x y) d n job e h t = cc
 ended_good (InGraph line) d n job e h t = cc
 
-read_good : (r : Result Draft JobKind) (n : ℕ) (more : Draft → Result Job JobFault) (job : Job) → ((e : Draft) → r ≡ Ok e → more e ≡ Ok job → IsWellFormed job) → read_on n r more ≡ Ok job → IsWellFormed job
+read_good : (r : Result Draft JobKind) (n : ℕ) (more : Draft → Result Job (Fault JobKind)) (job : Job) → ((e : Draft) → r ≡ Ok e → more e ≡ Ok job → IsWellFormed job) → read_on n r more ≡ Ok job → IsWellFormed job
 read_good (Ok e) n more job h t = h e refl t
 read_good (Err kind) n more job h t = cc
 
@@ -82,6 +82,6 @@ after_good [] d n job h t = ended_good d.place d n job refl h t
 after_good (l ∷ ls) d n job h t =
     read_good (step d (n + 1) l) (n + 1) (λ e. job_after e (n + 1) ls) job (λ e took more. after_good ls e (n + 1) job (take_line d e (n + 1) l h took) more) t
 
-pub gives_well_formed : (r : Result Job JobStop) (lines : List (List ℕ)) → Gives r (job_of lines) → IfOk r (λ job. IsWellFormed job)
+pub gives_well_formed : (r : Result Job (Stop (Fault JobKind))) (lines : List (List ℕ)) → Gives r (job_of lines) → IfOk r (λ job. IsWellFormed job)
 gives_well_formed (Ok job) lines h = after_good lines start 0 job good_start h
 gives_well_formed (Err stop) lines h = tt

@@ -6,12 +6,15 @@ use Rattle.std.specs.List.{AllByRecursion, slice_index}
 use Rattle.std.specs.Str.{bytes_eq}
 use Rattle.std.specs.Option.{is_some}
 use Rattle.std.proofs.lemmas.Bool.{cases_Bool, ltb-true, leb-true, eqb-true, and_parts}
+use Rattle.tn_text.specs.declared.numbers.Numeral.{Numeral}
+use Rattle.tn_text.specs.declared.numbers.Numeral.TheVariants.{Value, TooLarge, NoNumber}
+use Rattle.tn_text.specs.NumberLists.{numbers_in, numbers_of}
 use Rattle.tn_text.specs.Content.{content_of, is_plain}
-use Rattle.tn_text.specs.Words.{is_some_text, words_of}
+use Rattle.tn_text.specs.Words.{is_some_text, words_of, one_of, three_of, two_of}
 use Rattle.tn_text.specs.Numbers.{number_of}
 use Rattle.tn_text.specs.Hex.{hex_bytes_of, hex_array_of, hex_word_of}
 use Rattle.job_text.specs.declared.job.JobKind.{JobKind}
-use Rattle.job_text.specs.declared.job.JobKind.TheVariants.{NoShape, BadLine, BadNumber, Twice, TooMany}
+use Rattle.job_text.specs.declared.job.JobKind.TheVariants.{NoShape, BadLine, Twice, TooMany}
 use Rattle.job_text.specs.declared.job.Owner.{Owner}
 use Rattle.job_text.specs.declared.job.Owner.TheVariants.{All, Tile}
 use Rattle.job_text.specs.declared.job.ScriptText.TheVariants.{Send, Idle}
@@ -23,11 +26,11 @@ use Rattle.job_text.specs.declared.draft.Place.{Place}
 use Rattle.job_text.specs.declared.draft.Place.TheVariants.{AtHeader, AtShape, AtSettings, AtSections, InCode, InAsm, InTable, InGraph}
 use Rattle.job_text.specs.declared.draft.Draft.{Draft}
 use Rattle.job_text.specs.Seen.{has}
-use Rattle.job_text.specs.Arguments.{exactly, numbers_of, one_of, two_of, three_of, one_number_of, number_by, number_in, owner_by, owner_in, tile_owner, pair_in}
+use Rattle.job_text.specs.Arguments.{given, number_by, number_in, owner_by, owner_in, tile_owner, pair_in}
 use Rattle.job_text.specs.Keyword.{keyword_of, setting_in}
 use Rattle.job_text.specs.Text.{◌>>=◌, version_number, version_by, headed, header_line, shaped, shape_line, set_once, setting_line, owner_named, board_number, table_at, graph_at, graph_head, fill_bytes, fill_by, scripted, send_bytes, send_by, idle_line, host_line, keyword_line, entry_line, word_added, word_by, word_line, beat_added, beat_by, beat_line, asm_line, graph_line, content_line, step}
 use Rattle.job_text.specs.WellFormed.{AreBytes, IsOwner, IsTextLine}
-use Rattle.job_text.proofs.Bytes.{one_fits, numbers_fit, index_fits, bytes_fit, bytes_some, array_fits, word_fits}
+use Rattle.job_text.proofs.Bytes.{one_fits, numbers_fit, numbers_in_fit, given_is, index_fits, bytes_fit, bytes_some, array_fits, word_fits}
 use Rattle.job_text.proofs.Contents.{content_good, words_some}
 use Rattle.job_text.proofs.Keeps.{Good, Closed, IsKept, facts_at, closed_by, good_ok, bind_ok, good_header, good_shape, good_setting, good_code_all, good_code_tile, good_asm_all, good_asm_tile, good_table, good_graph, good_fill, good_script, good_code_ended, good_asm_ended, good_table_ended, good_graph_ended, good_word, good_beat, good_text}
 
@@ -64,20 +67,18 @@ take_header d e n (w ∷ ws) h c t = take_headed d e n (version_by (two_of (w �
 
 -- the shape
 
-exactly_fit : (n : ℕ) (ws : List (List ℕ)) (ns : List ℕ) → exactly n ws ≡ Ok ns → AllByRecursion (λ k. k < 2 ^ 32) ns
-exactly_fit n ws ns h =
-    ⊎_elim (λ e. let k : numbers_of ws ≡ Ok ns = rw e at h in numbers_fit ws ns k)
-    (λ e. let k : Err BadLine ≡ Ok ns = rw e at h in cc) (cases_Bool (eqb (length ws) n))
+given_fit : (n : ℕ) (ws : List (List ℕ)) (ns : List ℕ) → given (numbers_in n ws) ≡ Ok ns → AllByRecursion (λ k. k < 2 ^ 32) ns
+given_fit n ws ns h = numbers_in_fit n ws ns (given_is (numbers_in n ws) ns h)
 
-take_shaped : (d e : Draft) (n : ℕ) (r : Result (List ℕ) JobKind) → ((ns : List ℕ) → r ≡ Ok ns → AllByRecursion (λ k. k < 2 ^ 32) ns) → Good d → Closed d → shaped d n r ≡ Ok e → Good e
-take_shaped d e n (Ok ns) fit h c t = good_ok _ e (good_shape d n ns h c (fit ns refl)) _ refl t
-take_shaped d e n (Err BadNumber) fit h c t = cc
-take_shaped d e n (Err _) fit h c t = cc
+take_shaped : (d e : Draft) (n : ℕ) (r : Numeral (List ℕ)) → ((ns : List ℕ) → r ≡ Value ns → AllByRecursion (λ k. k < 2 ^ 32) ns) → Good d → Closed d → shaped d n r ≡ Ok e → Good e
+take_shaped d e n (Value ns) fit h c t = good_ok _ e (good_shape d n ns h c (fit ns refl)) _ refl t
+take_shaped d e n TooLarge fit h c t = cc
+take_shaped d e n NoNumber fit h c t = cc
 
 take_shape : (d e : Draft) (n : ℕ) (ws : List (List ℕ)) → Good d → Closed d → shape_line d n ws ≡ Ok e → Good e
 take_shape d e n [] h c t = good_ok d e h _ refl t
 take_shape d e n (w ∷ ws) h c t =
-    ⊎_elim (λ f. let k : shaped d n (exactly 6 ws) ≡ Ok e = rw f at t in take_shaped d e n (exactly 6 ws) (exactly_fit 6 ws) h c k)
+    ⊎_elim (λ f. let k : shaped d n (numbers_in 6 ws) ≡ Ok e = rw f at t in take_shaped d e n (numbers_in 6 ws) (numbers_in_fit 6 ws) h c k)
     (λ f. let k : Err NoShape ≡ Ok e = rw f at t in cc) (cases_Bool (bytes_eq w (codes "shape")))
 
 -- settings
@@ -106,7 +107,7 @@ owner_is : (x : Option (List ℕ)) (o : Owner) → owner_by x ≡ Ok o → IsOwn
 owner_is None o h = cc
 owner_is (Some w) o h =
     ⊎_elim (λ e. let k : Ok All ≡ Ok o = rw e at h in let f : o ≡ All = cc in rw f tt)
-    (λ e. let k : tile_owner (one_number_of (number_of w)) ≡ Ok o = rw e at h in tile_is (one_number_of (number_of w)) o (λ n g. one_fits (number_of w) w n refl g) k)
+    (λ e. let k : tile_owner (given (number_of w)) ≡ Ok o = rw e at h in tile_is (given (number_of w)) o (λ n g. one_fits (number_of w) w n refl g) k)
     (cases_Bool (bytes_eq w (codes "all")))
 
 take_code_head : (d e : Draft) (n : ℕ) (o : Owner) → Good d → Closed d → IsOwner o → (owner_named d o >>= λ f. Ok (record f { place = InCode n o })) ≡ Ok e → Good e
@@ -139,8 +140,8 @@ pair_by (Ok ns) p fit h =
     subst (λ (q : ℕ × ℕ). (q.0 < 2 ^ 32) × (q.1 < 2 ^ 32)) e (index_fits ns 0 (fit ns refl), index_fits ns 1 (fit ns refl))
 pair_by (Err kind) p fit h = cc
 
-pair_fits : (a b : List ℕ) (p : ℕ × ℕ) → pair_in (numbers_of (a ∷ b ∷ [])) ≡ Ok p → (p.0 < 2 ^ 32) × (p.1 < 2 ^ 32)
-pair_fits a b p h = pair_by (numbers_of (a ∷ b ∷ [])) p (λ ns e. numbers_fit (a ∷ b ∷ []) ns e) h
+pair_fits : (a b : List ℕ) (p : ℕ × ℕ) → pair_in (given (numbers_of (a ∷ b ∷ []))) ≡ Ok p → (p.0 < 2 ^ 32) × (p.1 < 2 ^ 32)
+pair_fits a b p h = pair_by (given (numbers_of (a ∷ b ∷ []))) p (λ ns e. numbers_fit (a ∷ b ∷ []) ns (given_is (numbers_of (a ∷ b ∷ [])) ns e)) h
 
 fill_is : (o : Option (List ℕ)) (bytes : List ℕ) → fill_bytes o ≡ Ok bytes → (o ≡ Some bytes) × (length bytes ≤ 4096)
 fill_is None bytes h = cc
@@ -154,9 +155,9 @@ send_is (Some xs) bytes h = let same : xs ≡ bytes = cc in ap (λ (x : List ℕ
 
 take_fill : (d e : Draft) (n : ℕ) (ws : List (List ℕ)) → AreSome ws → Good d → Closed d → fill_by d n (three_of ws) ≡ Ok e → Good e
 take_fill d e n (a ∷ b ∷ x ∷ []) some h c t =
-    let first = bind_ok (fill_bytes (hex_bytes_of x)) (λ bytes. pair_in (numbers_of (a ∷ b ∷ [])) >>= λ ns. Ok _) e t in
+    let first = bind_ok (fill_bytes (hex_bytes_of x)) (λ bytes. pair_in (given (numbers_of (a ∷ b ∷ []))) >>= λ ns. Ok _) e t in
     let bytes = fill_is (hex_bytes_of x) first.0 first.1 in
-    let next = bind_ok (pair_in (numbers_of (a ∷ b ∷ []))) (λ ns. Ok _) e first.2 in
+    let next = bind_ok (pair_in (given (numbers_of (a ∷ b ∷ [])))) (λ ns. Ok _) e first.2 in
     let fit = pair_fits a b next.0 next.1 in
     good_ok _ e (good_fill d n next.0.0 next.0.1 first.0 h c
     (record { thread = fit.0; address = fit.1; bytes = bytes_fit x first.0 bytes.0; some = bytes_some x first.0 some.1.1.0 bytes.0; few = bytes.1 })) _ refl next.2
@@ -164,9 +165,9 @@ take_fill d e n _ some h c t = cc
 
 take_send : (d e : Draft) (n : ℕ) (ws : List (List ℕ)) → AreSome ws → Good d → Closed d → send_by d n (two_of ws) ≡ Ok e → Good e
 take_send d e n (a ∷ x ∷ []) some h c t =
-    let first = bind_ok (send_bytes (hex_bytes_of x)) (λ bytes. one_number_of (number_of a) >>= λ thread. Ok (scripted d n (Send thread bytes))) e t in
+    let first = bind_ok (send_bytes (hex_bytes_of x)) (λ bytes. given (number_of a) >>= λ thread. Ok (scripted d n (Send thread bytes))) e t in
     let bytes = send_is (hex_bytes_of x) first.0 first.1 in
-    let next = bind_ok (one_number_of (number_of a)) (λ thread. Ok (scripted d n (Send thread first.0))) e first.2 in
+    let next = bind_ok (given (number_of a)) (λ thread. Ok (scripted d n (Send thread first.0))) e first.2 in
     let fit = one_fits (number_of a) a next.0 refl next.1 in
     good_ok _ e (good_script d n (Send next.0 first.0) h c (fit, bytes_fit x first.0 bytes, bytes_some x first.0 some.1.0 bytes)) _ refl next.2
 take_send d e n _ some h c t = cc
@@ -233,10 +234,10 @@ goes_on l w ws is key = goes_by l w ws (bytes_eq l (codes "end")) refl is key
 
 take_graph : (d e : Draft) (n : ℕ) (l w : List ℕ) (ws : List (List ℕ)) → Good d → Closed d → IsTextLine l → words_of l ≡ w ∷ ws → w ≡ codes "graph" → graph_head d n l ws ≡ Ok e → Good e
 take_graph d e n l w ws h c line is key t =
-    let b = bind_ok (exactly 2 ws) (λ ns. graph_at d n l) e t in
+    let b = bind_ok (given (numbers_in 2 ws)) (λ ns. graph_at d n l) e t in
     let is' : words_of l ≡ codes "graph" ∷ ws = is ∙ ap (λ (x : List ℕ). x ∷ ws) key in
     ⊎_elim (λ f. let k : Err Twice ≡ Ok e = rw f at b.2 in cc)
-    (λ f. let k = rw f at b.2 in good_ok _ e (good_graph d n l ws b.0 h c line is' b.1) _ refl k) (cases_Bool (is_some d.job.graph))
+    (λ f. let k = rw f at b.2 in good_ok _ e (good_graph d n l ws b.0 h c line is' (given_is (numbers_in 2 ws) b.0 b.1)) _ refl k) (cases_Bool (is_some d.job.graph))
 
 -- lines outside sections
 
@@ -250,7 +251,7 @@ take_keyword d e n l w ws (Some Asm) key is some line h c t =
     let b = bind_ok (owner_in ws) (λ o. owner_named d o >>= λ f. Ok (record f { place = InAsm n o })) e t in take_asm_head d e n b.0 h c (owner_is (one_of ws) b.0 b.1) b.2
 take_keyword d e n l w ws (Some Fill) key is some line h c t = take_fill d e n ws some h c t
 take_keyword d e n l w ws (Some Table) key is some line h c t =
-    let b = bind_ok (exactly 2 ws) (λ ns. table_at d n (slice_index ns 0) (slice_index ns 1)) e t in take_table d e n b.0 h c (exactly_fit 2 ws b.0 b.1) b.2
+    let b = bind_ok (given (numbers_in 2 ws)) (λ ns. table_at d n (slice_index ns 0) (slice_index ns 1)) e t in take_table d e n b.0 h c (given_fit 2 ws b.0 b.1) b.2
 take_keyword d e n l w ws (Some Host) key is some line h c t = take_host d e n ws some h c t
 take_keyword d e n l w ws (Some Graph) key is some line h c t = take_graph d e n l w ws h c (line key) is (graph_word w key) t
 

@@ -8,6 +8,7 @@ use Rattle.std.specs.Char.{digit_value}
 use Rattle.std.proofs.lemmas.Bool.{cases_Bool}
 use Rattle.std.proofs.lemmas.Bool.Decides.{nat_tests}
 use Rattle.std.proofs.lemmas.Fmt.{decimal_is_IsNumeral}
+use Rattle.tn_text.specs.Words.{spaced}
 use Rattle.tn_text.specs.Lines.{lines_of}
 use Rattle.job_text.specs.declared.job.Owner.{Owner}
 use Rattle.job_text.specs.declared.job.Owner.TheVariants.{All, Tile}
@@ -20,10 +21,10 @@ use Rattle.job_text.specs.declared.draft.Place.TheVariants.{AtSections, InCode, 
 use Rattle.job_text.specs.declared.draft.Draft.{Draft}
 use Rattle.job_text.specs.Seen.{has, with_number}
 use Rattle.job_text.specs.Arguments.{owner_in}
-use Rattle.job_text.specs.Printed.{spaced, feed, owner_text, word_text, end_text, code_text, asm_text, beat_text, table_text}
+use Rattle.job_text.specs.Printed.{feed, owner_text, word_text, end_text, code_text, asm_text, beat_text, table_text}
 use Rattle.job_text.specs.Text.{entry_line, owner_named, board_number, code_ended, asm_ended, table_ended}
 use Rattle.job_text.specs.WellFormed.{owner_allowed, code_allowed, asm_allowed, table_allowed, IsOwner, IsCode, IsAsm, IsTable, IsText, fed, code_unlined, text_unlined, table_unlined}
-use Rattle.job_text.proofs.Clean.{IsWord}
+use Rattle.tn_text.proofs.Clean.{IsWord}
 use Rattle.job_text.proofs.Words.{decimal_word, decimal_value}
 use Rattle.job_text.proofs.Leads.{Leads, leads_then, leads_entry, Ready, spaced_one, spaced_two}
 use Rattle.job_text.proofs.Heads.{numbers_of-decimals}

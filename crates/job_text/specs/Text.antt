@@ -4,7 +4,12 @@ use Rattle.std.specs.declared.result.Result.{Result}
 use Rattle.std.specs.declared.result.Result.TheVariants.{Ok, Err}
 use Rattle.tn_base.specs.declared.shape.ShapeNumbers.{ShapeNumbers}
 use Rattle.tn_text.specs.Content.{content_of, is_plain}
-use Rattle.tn_text.specs.Words.{words_of}
+use Rattle.tn_text.specs.declared.numbers.Numeral.{Numeral}
+use Rattle.tn_text.specs.declared.numbers.Numeral.TheVariants.{Value, TooLarge, NoNumber}
+use Rattle.tn_text.specs.declared.stop.Fault.{Fault}
+use Rattle.tn_text.specs.Gives.{fault_on}
+use Rattle.tn_text.specs.NumberLists.{numbers_of, numbers_in}
+use Rattle.tn_text.specs.Words.{words_of, one_of, two_of, three_of}
 use Rattle.tn_text.specs.Numbers.{number_of}
 use Rattle.tn_text.specs.Hex.{hex_bytes_of, hex_array_of, hex_word_of}
 use Rattle.job_text.specs.declared.job.Owner.{Owner}
@@ -12,7 +17,6 @@ use Rattle.job_text.specs.declared.job.Owner.TheVariants.{All, Tile}
 use Rattle.job_text.specs.declared.job.ScriptText.{ScriptText}
 use Rattle.job_text.specs.declared.job.ScriptText.TheVariants.{Send, Idle}
 use Rattle.job_text.specs.declared.job.Job.{Job}
-use Rattle.job_text.specs.declared.job.JobFault.{JobFault}
 use Rattle.job_text.specs.declared.job.JobKind.{JobKind}
 use Rattle.job_text.specs.declared.job.JobKind.TheVariants.{Header, NoShape, BadLine, BadNumber, Twice, NoEnd, BadWord, TooMany}
 use Rattle.job_text.specs.declared.keyword.Setting.{Setting}
@@ -22,7 +26,7 @@ use Rattle.job_text.specs.declared.draft.Place.{Place}
 use Rattle.job_text.specs.declared.draft.Place.TheVariants.{AtHeader, AtShape, AtSettings, AtSections, InCode, InAsm, InTable, InGraph}
 use Rattle.job_text.specs.declared.draft.Draft.{Draft}
 use Rattle.job_text.specs.Seen.{has, with_number}
-use Rattle.job_text.specs.Arguments.{numbers_of, exactly, one_of, two_of, three_of, number_in, one_number_of, pair_in, owner_in}
+use Rattle.job_text.specs.Arguments.{given, number_in, pair_in, owner_in}
 use Rattle.job_text.specs.Keyword.{keyword_of, setting_in, with_setting}
 
 infixl 10 ◌>>=◌
@@ -67,14 +71,14 @@ header_line d n (w ∷ ws) = headed d n (version_by (two_of (w ∷ ws)))
 abbrev pub shape_with : ShapeNumbers → List ℕ → ShapeNumbers
 shape_with numbers ns = record numbers { boards_x = slice_index ns 0; boards_y = slice_index ns 1; tiles_x = slice_index ns 2; tiles_y = slice_index ns 3; cores = slice_index ns 4; threads = slice_index ns 5 }
 
-abbrev pub shaped : Draft → ℕ → Result (List ℕ) JobKind → Result Draft JobKind
-shaped d n (Ok ns) = Ok (record d { place = AtSettings; job = record d.job { numbers = shape_with d.job.numbers ns; number_lines = all_at n } })
-shaped d n (Err BadNumber) = Err BadNumber
-shaped d n (Err _) = Err NoShape
+abbrev pub shaped : Draft → ℕ → Numeral (List ℕ) → Result Draft JobKind
+shaped d n (Value ns) = Ok (record d { place = AtSettings; job = record d.job { numbers = shape_with d.job.numbers ns; number_lines = all_at n } })
+shaped d n TooLarge = Err BadNumber
+shaped d n NoNumber = Err NoShape
 
 abbrev pub shape_line : Draft → ℕ → List (List ℕ) → Result Draft JobKind
 shape_line d n [] = Ok d
-shape_line d n (w ∷ ws) = if bytes_eq w (codes "shape") then shaped d n (exactly 6 ws) else Err NoShape
+shape_line d n (w ∷ ws) = if bytes_eq w (codes "shape") then shaped d n (numbers_in 6 ws) else Err NoShape
 
 -- Settings.
 
@@ -111,14 +115,14 @@ table_at d n x y =
     else Ok (record d { place = InTable n x y; boards = with_number (board_number x y) d.boards })
 
 abbrev pub table_head : Draft → ℕ → List (List ℕ) → Result Draft JobKind
-table_head d n words = exactly 2 words >>= λ ns. table_at d n (slice_index ns 0) (slice_index ns 1)
+table_head d n words = given (numbers_in 2 words) >>= λ ns. table_at d n (slice_index ns 0) (slice_index ns 1)
 
 -- the section's text begins with this line
 abbrev pub graph_at : Draft → ℕ → List ℕ → Result Draft JobKind
 graph_at d n content = if is_some d.job.graph then Err Twice else Ok (record d { place = InGraph n; text = content ++ 10 ∷ [] })
 
 abbrev pub graph_head : Draft → ℕ → List ℕ → List (List ℕ) → Result Draft JobKind
-graph_head d n content words = exactly 2 words >>= λ ns. graph_at d n content
+graph_head d n content words = given (numbers_in 2 words) >>= λ ns. graph_at d n content
 
 -- Sections of one line.
 
@@ -130,7 +134,7 @@ fill_bytes (Some bytes) = if nat_le (length bytes) 4096 then Ok bytes else Err B
 abbrev pub fill_by : Draft → ℕ → Option (List ℕ × List ℕ × List ℕ) → Result Draft JobKind
 fill_by d n None = Err BadLine
 fill_by d n (Some words) =
-    fill_bytes (hex_bytes_of words.2) >>= λ bytes. pair_in (numbers_of (words.0 ∷ words.1 ∷ [])) >>= λ ns.
+    fill_bytes (hex_bytes_of words.2) >>= λ bytes. pair_in (given (numbers_of (words.0 ∷ words.1 ∷ []))) >>= λ ns.
     Ok (record d { place = AtSections; job = record d.job { fills = d.job.fills ++ record { line = n; thread = ns.0; address = ns.1; bytes = bytes } ∷ [] } })
 
 abbrev pub scripted : Draft → ℕ → ScriptText → Draft
@@ -143,7 +147,7 @@ send_bytes (Some bytes) = Ok bytes
 abbrev pub send_by : Draft → ℕ → Option (List ℕ × List ℕ) → Result Draft JobKind
 send_by d n None = Err BadLine
 send_by d n (Some words) =
-    send_bytes (hex_bytes_of words.1) >>= λ bytes. one_number_of (number_of words.0) >>= λ thread.
+    send_bytes (hex_bytes_of words.1) >>= λ bytes. given (number_of words.0) >>= λ thread.
     Ok (scripted d n (Send thread bytes))
 
 abbrev pub idle_line : Draft → ℕ → List (List ℕ) → Result Draft JobKind
@@ -244,11 +248,11 @@ step d n line = if is_plain line then content_line d.place d n (content_of line)
 
 -- Whole texts.
 
-abbrev pub fault : ℕ → JobKind → Result Job JobFault
-fault line kind = Err (record { line = line; kind = kind })
+abbrev pub fault : ℕ → JobKind → Result Job (Fault JobKind)
+fault line kind = Err (fault_on line kind)
 
 -- at the text's end, behind so many lines
-abbrev pub ended : Place → Draft → ℕ → Result Job JobFault
+abbrev pub ended : Place → Draft → ℕ → Result Job (Fault JobKind)
 ended AtHeader d lines = fault 1 Header
 ended (AtShape line) d lines = fault line NoShape
 ended AtSettings d lines = Ok d.job
@@ -258,15 +262,15 @@ ended (InTable line x y) d lines = fault lines NoEnd
 ended (InAsm line owner) d lines = fault lines NoEnd
 ended (InGraph line) d lines = fault lines NoEnd
 
-abbrev pub read_on : ℕ → Result Draft JobKind → (Draft → Result Job JobFault) → Result Job JobFault
+abbrev pub read_on : ℕ → Result Draft JobKind → (Draft → Result Job (Fault JobKind)) → Result Job (Fault JobKind)
 read_on line (Ok d) more = more d
 read_on line (Err kind) more = fault line kind
 
 -- the lines behind so many others
-abbrev pub job_after : Draft → ℕ → List (List ℕ) → Result Job JobFault
+abbrev pub job_after : Draft → ℕ → List (List ℕ) → Result Job (Fault JobKind)
 job_after d done [] = ended d.place d done
 job_after d done (l ∷ ls) = read_on (done + 1) (step d (done + 1) l) (λ e. job_after e (done + 1) ls)
 
 -- the job that the lines say, or the first fault
-abbrev pub job_of : List (List ℕ) → Result Job JobFault
+abbrev pub job_of : List (List ℕ) → Result Job (Fault JobKind)
 job_of lines = job_after start 0 lines

@@ -5,6 +5,8 @@ use Rattle.std.specs.declared.result.Result.TheVariants.{Ok}
 use Rattle.tn_base.specs.declared.shape.ShapeNumbers.{ShapeNumbers}
 use Rattle.tn_text.specs.Lines.{lines_of, is_feed}
 use Rattle.tn_text.specs.Content.{content_of, is_plain}
+use Rattle.tn_text.specs.declared.numbers.Numeral.TheVariants.{Value}
+use Rattle.tn_text.specs.NumberLists.{numbers_in}
 use Rattle.tn_text.specs.Words.{words_of}
 use Rattle.job_text.specs.declared.job.Owner.{Owner}
 use Rattle.job_text.specs.declared.job.Owner.TheVariants.{All, Tile}
@@ -17,7 +19,6 @@ use Rattle.job_text.specs.declared.job.ScriptText.{ScriptText}
 use Rattle.job_text.specs.declared.job.ScriptText.TheVariants.{Send, Idle}
 use Rattle.job_text.specs.declared.job.ScriptLine.{ScriptLine}
 use Rattle.job_text.specs.declared.job.Job.{Job}
-use Rattle.job_text.specs.Arguments.{exactly}
 use Rattle.job_text.specs.Seen.{has, with_number}
 use Rattle.job_text.specs.Printed.{feed, text_of}
 use Rattle.job_text.specs.Text.{all_at, job_of, board_number}
@@ -106,7 +107,7 @@ pub record IsGraphText (s : TextSection) (head rest : List ℕ) (words : List (L
   pub text : s.text ≡ head ++ feed ++ rest
   pub line : IsTextLine head
   pub words_are : words_of head ≡ codes "graph" ∷ words
-  pub numbers : exactly 2 words ≡ Ok ns
+  pub numbers : numbers_in 2 words ≡ Value ns
   pub lines : IsText rest
 
 abbrev pub IsGraph : Option TextSection → Type 0

@@ -1,29 +1,28 @@
 //! A job that is being read, line by line.
 
 ghost use Rattle.std.specs.Prelude.{◌≡◌, ◌-◌, ◌<◌, ◌^◌};
-ghost use Rattle.job_text.specs.declared.job.JobStop.TheVariants as JobStop;
+ghost use Rattle.tn_text.specs.Gives.{Becomes, Gives};
 ghost use Rattle.tn_text.specs.Hex.{hex_array_of, hex_bytes_of};
-ghost use Rattle.tn_text.specs.Words.{words_of};
-ghost use Rattle.job_text.specs.Arguments.{two_of, three_of};
+ghost use Rattle.tn_text.specs.Words.{three_of, two_of, words_of};
 ghost use Rattle.job_text.specs.Text.{all_at as all_lines_at, default_numbers as numbers_by_default, start, version_by, header_line, shape_line, setting_line as setting_line_of, owner_named, code_head, asm_head, table_head, graph_head, fill_by, fill_bytes as fill_bytes_of, send_by, send_bytes as send_bytes_of, scripted, text_added, host_line, entry_line, word_line, beat_added, beat_line, asm_line, graph_line, foreign_byte, content_line, step, ended};
-ghost use Rattle.job_text.specs.Gives.{Takes, Gives, GivesValue};
 
-use crate::arguments::{
-    find_owner, number_alone, numbers, one_number, one_word, three_words, two_numbers, two_words,
-};
-use crate::items::Items;
+use crate::arguments::{find_owner, given, number_alone, one_number, two_numbers};
 use crate::job::{
-    BeatLine, CodeSection, FillLine, Job, JobFault, JobKind, JobStop, Owner, ScriptLine,
+    BeatLine, CodeSection, FillLine, Job, JobKind, JobStop, LineStop, Owner, ScriptLine,
     ScriptText, TableSection, TextSection,
 };
 use crate::keyword::{Keyword, Setting, find_keyword, setting_of, with_setting};
 use crate::seen::NumberSet;
-use std::alloc::{AllocError, Global};
+use std::alloc::Global;
 use std::mem;
 use tn_base::shape::ShapeNumbers;
 use tn_text::content::{content, is_plain};
 use tn_text::hex::{hex_array, hex_bytes, hex_word};
-use tn_text::words::first_word;
+use tn_text::items::Items;
+use tn_text::number_lists::numbers;
+use tn_text::numbers::Numeral;
+use tn_text::stop::Stop;
+use tn_text::words::{first_word, one_word, three_words, two_words};
 
 /// The most words of a `code` section.
 const WORDS: usize = 16_384;
@@ -33,35 +32,6 @@ const BEATS: usize = 65_536;
 
 /// The most bytes of a `fill` line.
 const FILL_BYTES: usize = 4_096;
-
-/// Why a line is not taken.
-#[derive(Clone, Copy, PartialEq, Eq, Debug)]
-pub(crate) enum LineStop {
-    Kind(JobKind),
-    Memory,
-}
-
-impl From<AllocError> for LineStop {
-    ghost use Rattle.std.specs.Prelude.{◌≡◌};
-    ghost use Rattle.job_text.specs.declared.draft.LineStop.TheVariants.{Memory};
-
-    ghost from_gives = { λ _ e. e ≡ Memory };
-
-    fn from(_: AllocError) -> LineStop {
-        LineStop::Memory
-    }
-}
-
-impl From<JobKind> for LineStop {
-    ghost use Rattle.std.specs.Prelude.{◌≡◌};
-    ghost use Rattle.job_text.specs.declared.draft.LineStop.TheVariants.{Kind};
-
-    ghost from_gives = { λ kind e. e ≡ Kind kind };
-
-    fn from(kind: JobKind) -> LineStop {
-        LineStop::Kind(kind)
-    }
-}
 
 /// Where the next line stands. A section has the number of its first line.
 #[derive(Clone, Copy, PartialEq, Eq, Debug)]
@@ -161,31 +131,25 @@ fn foreign(place: Place) -> JobKind
 
 /// The bytes of a `fill` line.
 fn fill_bytes(alloc: Global, digits: &[u8]) -> Result<Items<u8>, LineStop>
-    ensures { GivesValue result (fill_bytes_of (hex_bytes_of digits.now)) }
+    ensures { Gives result (fill_bytes_of (hex_bytes_of digits.now)) }
 {
     let Some(bytes) = hex_bytes(alloc, digits)? else {
-        return Err(LineStop::Kind(JobKind::BadLine));
+        return Err(Stop::Fault(JobKind::BadLine));
     };
     if bytes.len() > FILL_BYTES {
-        return Err(LineStop::Kind(JobKind::BadLine));
+        return Err(Stop::Fault(JobKind::BadLine));
     }
     Ok(Items::from(bytes))
 }
 
 /// The bytes of a `host send` line.
 fn send_bytes(alloc: Global, digits: &[u8]) -> Result<Items<u8>, LineStop>
-    ensures { GivesValue result (send_bytes_of (hex_bytes_of digits.now)) }
+    ensures { Gives result (send_bytes_of (hex_bytes_of digits.now)) }
 {
     match hex_bytes(alloc, digits)? {
         Some(bytes) => Ok(Items::from(bytes)),
-        None => Err(LineStop::Kind(JobKind::BadLine)),
+        None => Err(Stop::Fault(JobKind::BadLine)),
     }
-}
-
-fn fault(line: u32, kind: JobKind) -> JobStop
-    ensures { result ≡ JobStop.Fault (record { line = line; kind = kind }) }
-{
-    JobStop::Fault(JobFault { line, kind })
 }
 
 impl Draft {
@@ -217,13 +181,13 @@ impl Draft {
 
     fn header_line(&mut self, number: u32, line: &[u8]) -> Result<(), LineStop>
         requires { number < 2 ^ 32 - 1 }
-        ensures { Takes result self.new (header_line self.old number (words_of line.now)) }
+        ensures { Becomes result self.new (header_line self.old number (words_of line.now)) }
     {
         if first_word(line).is_none() {
             return Ok(());
         }
         let Some(version) = version(line) else {
-            return Err(LineStop::Kind(JobKind::Header));
+            return Err(Stop::Fault(JobKind::Header));
         };
         self.place = Place::AtShape(number + 1);
         self.job.version = version;
@@ -232,18 +196,18 @@ impl Draft {
     }
 
     fn shape_line(&mut self, number: u32, line: &[u8]) -> Result<(), LineStop>
-        ensures { Takes result self.new (shape_line self.old number (words_of line.now)) }
+        ensures { Becomes result self.new (shape_line self.old number (words_of line.now)) }
     {
         let Some((name, rest)) = first_word(line) else {
             return Ok(());
         };
         if name != b"shape".as_slice() {
-            return Err(LineStop::Kind(JobKind::NoShape));
+            return Err(Stop::Fault(JobKind::NoShape));
         }
         let [boards_x, boards_y, tiles_x, tiles_y, cores, threads] = match numbers::<6>(rest) {
-            Ok(numbers) => numbers,
-            Err(JobKind::BadNumber) => return Err(LineStop::Kind(JobKind::BadNumber)),
-            Err(_) => return Err(LineStop::Kind(JobKind::NoShape)),
+            Numeral::Value(numbers) => numbers,
+            Numeral::TooLarge => return Err(Stop::Fault(JobKind::BadNumber)),
+            Numeral::NoNumber => return Err(Stop::Fault(JobKind::NoShape)),
         };
         self.place = Place::AtSettings;
         self.job.numbers.boards_x = boards_x;
@@ -257,14 +221,14 @@ impl Draft {
     }
 
     fn setting_line(&mut self, number: u32, setting: Setting, rest: &[u8]) -> Result<(), LineStop>
-        ensures { Takes result self.new (setting_line_of self.old.place self.old number setting (words_of rest.now)) }
+        ensures { Becomes result self.new (setting_line_of self.old.place self.old number setting (words_of rest.now)) }
     {
         if self.place != Place::AtSettings {
-            return Err(LineStop::Kind(JobKind::BadLine));
+            return Err(Stop::Fault(JobKind::BadLine));
         }
         let value = number_alone(rest)?;
         if setting_of(setting, &self.job.number_lines) != self.job.number_lines.version {
-            return Err(LineStop::Kind(JobKind::Twice));
+            return Err(Stop::Fault(JobKind::Twice));
         }
         self.job.numbers = with_setting(setting, value, self.job.numbers);
         self.job.number_lines = with_setting(setting, number, self.job.number_lines);
@@ -272,12 +236,12 @@ impl Draft {
     }
 
     fn name_owner(&mut self, owner: Owner) -> Result<(), LineStop>
-        ensures { Takes result self.new (owner_named self.old owner) }
+        ensures { Becomes result self.new (owner_named self.old owner) }
     {
         match owner {
             Owner::All => {
                 if self.all_named {
-                    return Err(LineStop::Kind(JobKind::Twice));
+                    return Err(Stop::Fault(JobKind::Twice));
                 }
                 self.all_named = true;
                 Ok(())
@@ -286,13 +250,13 @@ impl Draft {
                 if self.tiles.add(u64::from(tile))? {
                     return Ok(());
                 }
-                Err(LineStop::Kind(JobKind::Twice))
+                Err(Stop::Fault(JobKind::Twice))
             }
         }
     }
 
     fn code_head(&mut self, number: u32, rest: &[u8]) -> Result<(), LineStop>
-        ensures { Takes result self.new (code_head self.old number (words_of rest.now)) }
+        ensures { Becomes result self.new (code_head self.old number (words_of rest.now)) }
     {
         let owner = find_owner(rest)?;
         self.name_owner(owner)?;
@@ -301,7 +265,7 @@ impl Draft {
     }
 
     fn asm_head(&mut self, number: u32, rest: &[u8]) -> Result<(), LineStop>
-        ensures { Takes result self.new (asm_head self.old number (words_of rest.now)) }
+        ensures { Becomes result self.new (asm_head self.old number (words_of rest.now)) }
     {
         let owner = find_owner(rest)?;
         self.name_owner(owner)?;
@@ -310,14 +274,14 @@ impl Draft {
     }
 
     fn table_head(&mut self, number: u32, rest: &[u8]) -> Result<(), LineStop>
-        ensures { Takes result self.new (table_head self.old number (words_of rest.now)) }
+        ensures { Becomes result self.new (table_head self.old number (words_of rest.now)) }
     {
-        let [x, y] = numbers::<2>(rest)?;
+        let [x, y] = given(numbers::<2>(rest))?;
         if !self
             .boards
             .add(u64::from(x) * 0x1_0000_0000 + u64::from(y))?
         {
-            return Err(LineStop::Kind(JobKind::Twice));
+            return Err(Stop::Fault(JobKind::Twice));
         }
         self.place = Place::InTable(number, x, y);
         Ok(())
@@ -330,11 +294,11 @@ impl Draft {
         line: &[u8],
         rest: &[u8],
     ) -> Result<(), LineStop>
-        ensures { Takes result self.new (graph_head self.old number line.now (words_of rest.now)) }
+        ensures { Becomes result self.new (graph_head self.old number line.now (words_of rest.now)) }
     {
-        let [_, _] = numbers::<2>(rest)?;
+        let [_, _] = given(numbers::<2>(rest))?;
         if self.job.graph.is_some() {
-            return Err(LineStop::Kind(JobKind::Twice));
+            return Err(Stop::Fault(JobKind::Twice));
         }
         let mut text = Items::new(alloc);
         text.extend(line)?;
@@ -345,10 +309,10 @@ impl Draft {
     }
 
     fn fill_line(&mut self, alloc: Global, number: u32, rest: &[u8]) -> Result<(), LineStop>
-        ensures { Takes result self.new (fill_by self.old number (three_of (words_of rest.now))) }
+        ensures { Becomes result self.new (fill_by self.old number (three_of (words_of rest.now))) }
     {
         let Some((thread, address, digits)) = three_words(rest) else {
-            return Err(LineStop::Kind(JobKind::BadLine));
+            return Err(Stop::Fault(JobKind::BadLine));
         };
         let bytes = fill_bytes(alloc, digits)?;
         let (thread, address) = two_numbers(thread, address)?;
@@ -363,7 +327,7 @@ impl Draft {
     }
 
     fn push_script(&mut self, number: u32, item: ScriptText) -> Result<(), LineStop>
-        ensures { Takes result self.new (Ok (scripted self.old number item)) }
+        ensures { Becomes result self.new (Ok (scripted self.old number item)) }
     {
         self.job.script.push(ScriptLine { line: number, item })?;
         self.place = Place::AtSections;
@@ -371,10 +335,10 @@ impl Draft {
     }
 
     fn send_line(&mut self, alloc: Global, number: u32, rest: &[u8]) -> Result<(), LineStop>
-        ensures { Takes result self.new (send_by self.old number (two_of (words_of rest.now))) }
+        ensures { Becomes result self.new (send_by self.old number (two_of (words_of rest.now))) }
     {
         let Some((thread, digits)) = two_words(rest) else {
-            return Err(LineStop::Kind(JobKind::BadLine));
+            return Err(Stop::Fault(JobKind::BadLine));
         };
         let bytes = send_bytes(alloc, digits)?;
         let thread = one_number(thread)?;
@@ -382,32 +346,32 @@ impl Draft {
     }
 
     fn host_line(&mut self, alloc: Global, number: u32, rest: &[u8]) -> Result<(), LineStop>
-        ensures { Takes result self.new (host_line self.old number (words_of rest.now)) }
+        ensures { Becomes result self.new (host_line self.old number (words_of rest.now)) }
     {
         let Some((name, rest)) = first_word(rest) else {
-            return Err(LineStop::Kind(JobKind::BadLine));
+            return Err(Stop::Fault(JobKind::BadLine));
         };
         if name == b"idle".as_slice() {
             if first_word(rest).is_some() {
-                return Err(LineStop::Kind(JobKind::BadLine));
+                return Err(Stop::Fault(JobKind::BadLine));
             }
             return self.push_script(number, ScriptText::Idle);
         }
         if name == b"send".as_slice() {
             return self.send_line(alloc, number, rest);
         }
-        Err(LineStop::Kind(JobKind::BadLine))
+        Err(Stop::Fault(JobKind::BadLine))
     }
 
     /// A line behind the shape and outside sections.
     fn entry_line(&mut self, alloc: Global, number: u32, line: &[u8]) -> Result<(), LineStop>
-        ensures { Takes result self.new (entry_line self.old number line.now (words_of line.now)) }
+        ensures { Becomes result self.new (entry_line self.old number line.now (words_of line.now)) }
     {
         let Some((name, rest)) = first_word(line) else {
             return Ok(());
         };
         match find_keyword(name) {
-            None => Err(LineStop::Kind(JobKind::BadLine)),
+            None => Err(Stop::Fault(JobKind::BadLine)),
             Some(Keyword::Number(setting)) => self.setting_line(number, setting, rest),
             Some(Keyword::Code) => self.code_head(number, rest),
             Some(Keyword::Asm) => self.asm_head(number, rest),
@@ -425,13 +389,13 @@ impl Draft {
         owner: Owner,
         line: &[u8],
     ) -> Result<(), LineStop>
-        ensures { Takes result self.new (word_line self.old head owner (words_of line.now)) }
+        ensures { Becomes result self.new (word_line self.old head owner (words_of line.now)) }
     {
         if first_word(line).is_none() {
             return Ok(());
         }
         let Some(word) = one_word(line) else {
-            return Err(LineStop::Kind(JobKind::BadWord));
+            return Err(Stop::Fault(JobKind::BadWord));
         };
         if word == b"end".as_slice() {
             let words = mem::replace(&mut self.words, Items::new(alloc));
@@ -444,23 +408,23 @@ impl Draft {
             return Ok(());
         }
         let Some(word) = hex_word(word) else {
-            return Err(LineStop::Kind(JobKind::BadWord));
+            return Err(Stop::Fault(JobKind::BadWord));
         };
         if self.words.len() >= WORDS {
-            return Err(LineStop::Kind(JobKind::TooMany));
+            return Err(Stop::Fault(JobKind::TooMany));
         }
         self.words.push(word)?;
         Ok(())
     }
 
     fn push_beat(&mut self, number: u32, word: &[u8]) -> Result<(), LineStop>
-        ensures { Takes result self.new (beat_added self.old number (hex_array_of 32 word.now)) }
+        ensures { Becomes result self.new (beat_added self.old number (hex_array_of 32 word.now)) }
     {
         let Some(bytes) = hex_array::<32>(word) else {
-            return Err(LineStop::Kind(JobKind::BadWord));
+            return Err(Stop::Fault(JobKind::BadWord));
         };
         if self.beats.len() >= BEATS {
-            return Err(LineStop::Kind(JobKind::TooMany));
+            return Err(Stop::Fault(JobKind::TooMany));
         }
         self.beats.push(BeatLine {
             line: number,
@@ -478,13 +442,13 @@ impl Draft {
         y: u32,
         line: &[u8],
     ) -> Result<(), LineStop>
-        ensures { Takes result self.new (beat_line self.old number head x y (words_of line.now)) }
+        ensures { Becomes result self.new (beat_line self.old number head x y (words_of line.now)) }
     {
         if first_word(line).is_none() {
             return Ok(());
         }
         let Some(word) = one_word(line) else {
-            return Err(LineStop::Kind(JobKind::BadWord));
+            return Err(Stop::Fault(JobKind::BadWord));
         };
         if word == b"end".as_slice() {
             let beats = mem::replace(&mut self.beats, Items::new(alloc));
@@ -501,7 +465,7 @@ impl Draft {
     }
 
     fn push_text(&mut self, line: &[u8]) -> Result<(), LineStop>
-        ensures { Takes result self.new (Ok (text_added self.old line.now)) }
+        ensures { Becomes result self.new (Ok (text_added self.old line.now)) }
     {
         self.text.extend(line)?;
         self.text.push(b'\n')?;
@@ -515,7 +479,7 @@ impl Draft {
         owner: Owner,
         line: &[u8],
     ) -> Result<(), LineStop>
-        ensures { Takes result self.new (asm_line self.old head owner line.now) }
+        ensures { Becomes result self.new (asm_line self.old head owner line.now) }
     {
         if line != b"end".as_slice() {
             return self.push_text(line);
@@ -531,7 +495,7 @@ impl Draft {
     }
 
     fn graph_line(&mut self, alloc: Global, head: u32, line: &[u8]) -> Result<(), LineStop>
-        ensures { Takes result self.new (graph_line self.old head line.now) }
+        ensures { Becomes result self.new (graph_line self.old head line.now) }
     {
         if line != b"end".as_slice() {
             return self.push_text(line);
@@ -554,10 +518,10 @@ impl Draft {
         line: &[u8],
     ) -> Result<(), LineStop>
         requires { number < 2 ^ 32 - 1 }
-        ensures { Takes result self.new (step self.old number line.now) }
+        ensures { Becomes result self.new (step self.old number line.now) }
     {
         if !is_plain(line) {
-            return Err(LineStop::Kind(foreign(self.place)));
+            return Err(Stop::Fault(foreign(self.place)));
         }
         let line = content(line);
         match self.place {
@@ -577,11 +541,11 @@ impl Draft {
         ensures { Gives result (ended self.place self lines) }
     {
         match self.place {
-            Place::AtHeader => Err(fault(1, JobKind::Header)),
-            Place::AtShape(line) => Err(fault(line, JobKind::NoShape)),
+            Place::AtHeader => Err(Stop::Fault(JobKind::Header).at(1)),
+            Place::AtShape(line) => Err(Stop::Fault(JobKind::NoShape).at(line)),
             Place::AtSettings => Ok(self.job),
             Place::AtSections => Ok(self.job),
-            _ => Err(fault(lines, JobKind::NoEnd)),
+            _ => Err(Stop::Fault(JobKind::NoEnd).at(lines)),
         }
     }
 }

@@ -1,7 +1,8 @@
 //! A job, as its text says it.
 
-use crate::items::Items;
 use tn_base::shape::ShapeNumbers;
+use tn_text::items::Items;
+use tn_text::stop::{Fault, Stop};
 
 /// Whose code a section gives.
 #[derive(Clone, Copy, PartialEq, Eq, Debug)]
@@ -107,16 +108,22 @@ pub enum JobKind {
     TooMany,
 }
 
-/// The first line at fault, counted from 1.
-#[derive(Clone, Copy, PartialEq, Eq, Debug)]
-pub struct JobFault {
-    pub line: u32,
-    pub kind: JobKind,
-}
+/// The first line at fault.
+pub type JobFault = Fault<JobKind>;
 
 /// Why there is no job.
-#[derive(Clone, Copy, PartialEq, Eq, Debug)]
-pub enum JobStop {
-    Fault(JobFault),
-    Memory,
+pub type JobStop = Stop<JobFault>;
+
+/// Why a line is not taken.
+pub(crate) type LineStop = Stop<JobKind>;
+
+impl From<JobKind> for Stop<JobKind> {
+    ghost use Rattle.std.specs.Prelude.{◌≡◌};
+    ghost use Rattle.tn_text.specs.declared.stop.Stop.TheVariants.{Fault};
+
+    ghost from_gives = { λ kind stop. stop ≡ Fault kind };
+
+    fn from(kind: JobKind) -> Stop<JobKind> {
+        Stop::Fault(kind)
+    }
 }

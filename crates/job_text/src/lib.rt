@@ -6,7 +6,6 @@
 
 mod arguments;
 mod draft;
-pub mod items;
 pub mod job;
 mod keyword;
 pub mod laws;
