@@ -12,9 +12,9 @@ use asm_build::assemble::assemble;
 use asm_build::image::Image;
 use asm_text::fault::AsmStop;
 use asm_text::read::read_lines;
-use job_text::items::Items;
 use job_text::job::{CodeSection, TextSection};
 use std::alloc::Global;
+use tn_text::items::Items;
 
 /// What a text is in words, whose first line has the number `first`.
 pub fn assemble_text(alloc: Global, text: &[u8], first: u32) -> Result<Image, AsmStop>
