@@ -5,41 +5,36 @@ use Rattle.std.specs.declared.result.Result.TheVariants.{Ok, Err}
 use Rattle.std.specs.List.{list_all, suffix_len}
 use Rattle.std.proofs.lemmas.Bool.{cases_Bool, and_parts}
 use Rattle.std.proofs.lemmas.Bool.Decides.{nat_tests}
-use Rattle.std.proofs.lemmas.List.{reverse-append, take-append-le}
+use Rattle.std.proofs.lemmas.List.{length-map, reverse-append, take-append-le}
 use Rattle.std.proofs.lemmas.List.Folds.{list_all-append}
-use Rattle.tn_text.specs.Content.{is_space, is_hash, may_stand, before_comment, trimmed, without_front_spaces, without_back_spaces, is_plain}
+use Rattle.tn_text.specs.Content.{is_space, is_hash, may_stand, before_comment, trimmed, without_front_spaces, without_back_spaces}
 use Rattle.tn_text.specs.declared.stop.Fault.{Fault}
-use Rattle.job_text.specs.declared.job.Job.{Job}
+use Rattle.tn_text.specs.Reading.{and_on}
 use Rattle.job_text.specs.declared.job.JobKind.{JobKind}
 use Rattle.job_text.specs.declared.draft.Draft.{Draft}
-use Rattle.job_text.specs.Contents.{bare, commented}
-use Rattle.job_text.specs.Text.{content_line, foreign_byte, step, read_on, job_after}
+use Rattle.job_text.specs.Contents.{commented}
+use Rattle.job_text.specs.Text.{bare, drafted, job_by, job_of, start, step}
 
 -- Whole texts.
 
-abbrev stepped : Draft → ℕ → Option (List ℕ) → Result Draft JobKind
-stepped d n (Some content) = content_line d.place d n content
-stepped d n None = Err (foreign_byte d.place)
-
-step_by : (d : Draft) (n : ℕ) (l : List ℕ) → step d n l ≡ stepped d n (bare l)
-step_by d n l = ⊎_elim (λ e. rw e refl) (λ e. rw e refl) (cases_Bool (is_plain l))
-
-same_step : (d : Draft) (n : ℕ) (l m : List ℕ) → bare l ≡ bare m → step d n l ≡ step d n m
-same_step d n l m e = step_by d n l ∙ ap (stepped d n) e ∙ sym (step_by d n m)
-
-same_on : (n : ℕ) (r : Result Draft JobKind) (f g : Draft → Result Job (Fault JobKind)) → ((d : Draft) → f d ≡ g d) → read_on n r f ≡ read_on n r g
+same_on : (n : ℕ) (r : Result Draft JobKind) (f g : Draft → Result Draft (Fault JobKind)) → ((d : Draft) → f d ≡ g d) → and_on n r f ≡ and_on n r g
 same_on n (Ok d) f g h = h d
 same_on n (Err kind) f g h = refl
 
-pub same_job : (ls ms : List (List ℕ)) (d : Draft) (n : ℕ) → map bare ls ≡ map bare ms → job_after d n ls ≡ job_after d n ms
-same_job [] [] d n e = refl
-same_job [] (m ∷ ms) d n e = cc
-same_job (l ∷ ls) [] d n e = cc
-same_job (l ∷ ls) (m ∷ ms) d n e =
+same_drafted : (ls ms : List (List ℕ)) (n : ℕ) (d : Draft) → map bare ls ≡ map bare ms → drafted n ls d ≡ drafted n ms d
+same_drafted [] [] n d e = refl
+same_drafted [] (m ∷ ms) n d e = cc
+same_drafted (l ∷ ls) [] n d e = cc
+same_drafted (l ∷ ls) (m ∷ ms) n d e =
     let first : bare l ≡ bare m = cc in
     let others : map bare ls ≡ map bare ms = cc in
-    ap (λ (r : Result Draft JobKind). read_on (n + 1) r (λ x. job_after x (n + 1) ls)) (same_step d (n + 1) l m first)
-    ∙ same_on (n + 1) (step d (n + 1) m) (λ x. job_after x (n + 1) ls) (λ x. job_after x (n + 1) ms) (λ x. same_job ls ms x (n + 1) others)
+    ap (λ (b : Option (List ℕ)). and_on n (step n b d) (λ x. drafted (n + 1) ls x)) first
+    ∙ same_on n (step n (bare m) d) (λ x. drafted (n + 1) ls x) (λ x. drafted (n + 1) ms x) (λ x. same_drafted ls ms (n + 1) x others)
+
+pub same_job : (ls ms : List (List ℕ)) → map bare ls ≡ map bare ms → job_of ls ≡ job_of ms
+same_job ls ms e =
+    let long : length ls ≡ length ms = sym (length-map ls bare) ∙ ap length e ∙ length-map ms bare in
+    ap (λ (n : ℕ). job_by n (drafted 1 ls start)) long ∙ ap (job_by (length ms)) (same_drafted ls ms 1 start e)
 
 -- One line.
 

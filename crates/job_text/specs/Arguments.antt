@@ -11,6 +11,11 @@ use Rattle.job_text.specs.declared.job.Owner.TheVariants.{All, Tile}
 use Rattle.job_text.specs.declared.job.JobKind.{JobKind}
 use Rattle.job_text.specs.declared.job.JobKind.TheVariants.{BadLine, BadNumber}
 
+infixl 10 ◌>>=◌
+abbrev pub ◌>>=◌ : {A B : Type 0} → Result A JobKind → (A → Result B JobKind) → Result B JobKind
+(Ok x) >>= f = f x
+(Err kind) >>= f = Err kind
+
 -- the numbers of a line that has its form but for them
 abbrev pub given : {V : Type 0} → Numeral V → Result V JobKind
 given (Value v) = Ok v

@@ -1,11 +1,7 @@
 -- What counts of a line, and texts of which the same counts.
-use Rattle.std.specs.Prelude.{◌≡◌, ℕ, List, ◌++◌, ◌∷◌, map, if◌then◌else◌, Option, Some, None}
-use Rattle.tn_text.specs.Content.{content_of, is_plain}
+use Rattle.std.specs.Prelude.{◌≡◌, ℕ, List, ◌++◌, ◌∷◌, map}
 use Rattle.tn_text.specs.Lines.{lines_of}
-
--- a line without its comment and outer spaces, if every byte that is left may stand there
-abbrev pub bare : List ℕ → Option (List ℕ)
-bare line = if is_plain line then Some (content_of line) else None
+use Rattle.job_text.specs.Text.{bare}
 
 -- the texts have as many lines, and in the same place the same is left of both lines
 abbrev pub SameContents : List ℕ → List ℕ → Type 0

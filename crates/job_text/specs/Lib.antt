@@ -1,6 +1,8 @@
-pub mod Seen
+pub mod Sections
+pub mod Named
 pub mod Arguments
 pub mod Keyword
+pub mod SectionLines
 pub mod Text
 pub mod Contents
 pub mod Numbered

@@ -1,5 +1,9 @@
 //! A job, as its text says it.
 
+ghost use Rattle.std.specs.Prelude.{◌≡◌, IfOk};
+ghost use Rattle.job_text.specs.Sections.{with_section};
+
+use std::alloc::AllocError;
 use tn_base::shape::ShapeNumbers;
 use tn_text::items::Items;
 use tn_text::stop::{Fault, Stop};
@@ -70,6 +74,18 @@ pub struct ScriptLine {
     pub item: ScriptText,
 }
 
+/// A section: what a text says from a head to its `end`, or on one line.
+#[derive(Drop)]
+pub enum Section {
+    Code(CodeSection),
+    Asm(TextSection),
+    Fill(FillLine),
+    Table(TableSection),
+    Script(ScriptLine),
+    /// Its text begins with the `graph` line.
+    Graph(TextSection),
+}
+
 /// A job: the numbers of its machine and its sections, each list in order of lines.
 #[derive(Drop)]
 pub struct Job {
@@ -85,6 +101,25 @@ pub struct Job {
     pub script: Items<ScriptLine>,
     /// Its text begins with the `graph` line.
     pub graph: Option<TextSection>,
+}
+
+impl Job {
+    /// Adds a section behind the sections of its kind.
+    pub(crate) fn add(&mut self, section: Section) -> Result<(), AllocError>
+        ensures { IfOk result (λ _. self.new ≡ with_section self.old section) }
+    {
+        match section {
+            Section::Code(code) => self.codes.push(code),
+            Section::Asm(asm) => self.asms.push(asm),
+            Section::Fill(fill) => self.fills.push(fill),
+            Section::Table(table) => self.tables.push(table),
+            Section::Script(line) => self.script.push(line),
+            Section::Graph(graph) => {
+                self.graph = Some(graph);
+                Ok(())
+            }
+        }
+    }
 }
 
 /// Why a text is no job. Of several kinds that a line has, the first counts.

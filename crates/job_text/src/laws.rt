@@ -4,8 +4,8 @@ ghost use Rattle.std.specs.Prelude.{◌≡◌, ◌++◌, true};
 ghost use Rattle.std.specs.List.{list_all};
 ghost use Rattle.tn_text.specs.Content.{is_space};
 ghost use Rattle.tn_text.specs.Lines.{lines_of};
-ghost use Rattle.job_text.specs.Contents.{bare, commented, SameContents};
-ghost use Rattle.job_text.specs.Text.{job_of};
+ghost use Rattle.job_text.specs.Contents.{commented, SameContents};
+ghost use Rattle.job_text.specs.Text.{bare, job_of};
 ghost use Rattle.job_text.specs.WellFormed.{IsWellFormed, ReadsBack};
 
 use crate::job::Job;

@@ -21,9 +21,10 @@ fn read(alloc: Global, text: &[u8]) -> Result<Job, JobStop>
     let mut line = 0;
     while let Some((front, after)) = first_line(rest) {
         line += 1;
-        if let Err(stop) = draft.take_line(alloc, line, front) {
-            return Err(stop.at(line));
-        }
+        draft = match draft.take_line(alloc, line, front) {
+            Ok(next) => next,
+            Err(stop) => return Err(stop.at(line)),
+        };
         rest = after;
     }
     draft.finish(line)
