@@ -1,6 +1,5 @@
 -- Words as assembly.
-use Rattle.std.specs.Prelude.{ℕ, ℤ, ◌/◌, ◌%◌, ◌^◌, List, [], ◌∷◌, ◌++◌, Option, Some, None, codes, decimal}
-use Rattle.std.specs.Char.{digit_char}
+use Rattle.std.specs.Prelude.{ℕ, ℤ, ◌/◌, ◌^◌, List, [], ◌∷◌, ◌++◌, drop, Option, Some, None, codes, decimal}
 use Rattle.std.specs.Fmt.{signed_decimal}
 use Rattle.std.specs.Int.{cast_unsigned, w32}
 use Rattle.tn_text.specs.Hex.{hex_word_text}
@@ -17,9 +16,9 @@ register_text n = 120 ∷ decimal n
 abbrev pub memory_text : ℤ → ℕ → List ℕ
 memory_text offset base = signed_decimal offset ++ (40 ∷ register_text base ++ 41 ∷ [])
 
--- a number below 4096 in three hexadecimal digits
+-- a number below 4096 in the last three of its eight hexadecimal digits
 abbrev pub control_text : ℕ → List ℕ
-control_text n = 48 ∷ 120 ∷ digit_char (n / 256 % 16) ∷ digit_char (n / 16 % 16) ∷ digit_char (n % 16) ∷ []
+control_text n = codes "0x" ++ drop 5 (hex_word_text n)
 
 -- the arguments of an instruction, which has arguments of this form
 abbrev pub operands_of : Form → Instr → List (List ℕ)
