@@ -1,5 +1,5 @@
 -- Words as assembly.
-use Rattle.std.specs.Prelude.{ℕ, ℤ, ◌/◌, ◌^◌, List, [], ◌∷◌, ◌++◌, drop, Option, Some, None, codes, decimal}
+use Rattle.std.specs.Prelude.{ℕ, ℤ, ◌/◌, ◌^◌, List, [], ◌∷◌, ◌++◌, drop, Option, Some, None, codes, decimal, flat_map}
 use Rattle.std.specs.Fmt.{signed_decimal}
 use Rattle.std.specs.Int.{cast_unsigned, w32}
 use Rattle.tn_text.specs.Hex.{hex_word_text}
@@ -60,3 +60,10 @@ shown_by word None = unknown_text word
 -- the canonical line of a word
 abbrev pub shown : ℕ → List ℕ
 shown word = shown_by word (decode_of word)
+
+abbrev pub shown_line : ℕ → List ℕ
+shown_line word = shown word ++ codes "\n"
+
+-- the canonical lines of words, each with its line feed
+abbrev pub shown_text : List ℕ → List ℕ
+shown_text words = flat_map shown_line words
