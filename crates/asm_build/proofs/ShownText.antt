@@ -76,6 +76,7 @@ image_all number (w ∷ ws) words h short =
 -- The laws.
 
 pub text_back : (number : ℕ) (ws : List ℕ) → ((k : ℕ) → Fits w32 (get_or ws k 0)) → length ws ≤ 16384 → assembled number (shown_text ws) ≡ Ok (with_words ws)
+unfolding assembled
 text_back number ws h short =
     let lines = shown_lines number ws in
     ap image_by (read_all number ws h)
@@ -87,6 +88,7 @@ alone_fits word h zero = omega (arith, h)
 alone_fits word h (suc k) = omega arith
 
 pub show_back : (number word : ℕ) → word < 2 ^ 32 → assembled number (shown word) ≡ Ok (with_words (word ∷ []))
+unfolding assembled
 show_back number word h =
     let line = (shows word h).line in
     ap (λ (ls : List (List ℕ)). image_by (lines_from number ls)) (one_line (shown word) line ∙ sym (first_line word [] line))

@@ -15,5 +15,5 @@ image_by (Ok lines) = image_of lines
 image_by (Err fault) = Err fault
 
 -- what reading and assembling make of a text whose first line has this number
-abbrev pub assembled : ℕ → List ℕ → Result Image (Fault AsmKind)
+unfoldable pub assembled : ℕ → List ℕ → Result Image (Fault AsmKind)
 assembled first text = image_by (lines_from first (lines_of text))

@@ -1,15 +1,18 @@
 //! Assembling a text.
 
-ghost use Rattle.std.specs.Prelude.{◌≡◌, ◌≤◌, [], length, IfOk};
+ghost use Rattle.std.specs.Prelude.{◌≡◌, ◌+◌, ◌<◌, ◌≤◌, ◌^◌, [], length, IfOk};
 ghost use Rattle.tn_text.specs.Gives.{Gives};
+ghost use Rattle.tn_text.specs.Lines.{lines_of};
 ghost use Rattle.asm_build.specs.Image.{size_of, known_after, places_after, empty_image, image_after, image_of};
 ghost use Rattle.asm_build.specs.Assembled.{IsAssembled};
+ghost use Rattle.asm_build.specs.Text.{assembled};
 
 use crate::code::find_code;
 use crate::image::{Image, check_label, count};
 use crate::labels::Labels;
 use asm_text::fault::AsmStop;
 use asm_text::line::Line;
+use asm_text::read::read_lines;
 use std::alloc::{AllocError, Global};
 
 /// Every label of a text, at 0.
@@ -78,4 +81,15 @@ pub fn assemble(alloc: Global, lines: &[Line]) -> Result<Image, AsmStop>
     ensures limit { IfOk result (λ image. length image.words ≤ 16384) }
 {
     assemble_lines(alloc, lines)
+}
+
+/// The words of a text whose first line has the number `first`, and the addresses of its labels.
+pub fn assemble_text(alloc: Global, text: &[u8], first: u32) -> Result<Image, AsmStop>
+    requires { first + length (lines_of text.now) < 2 ^ 32 }
+    // The image of its lines, or the first line at fault: BadLine and BadNumber on any line are worse than all other kinds.
+    ensures image { Gives result (assembled first text.now) }
+    ensures limit { IfOk result (λ image. length image.words ≤ 16384) }
+{
+    let lines = read_lines(alloc, text, first)?;
+    assemble(alloc, lines.as_slice())
 }
