@@ -63,7 +63,7 @@ some_front : (w rest : List ℕ) → IsTight w → is_some_text (w ++ rest) ≡ 
 some_front [] rest h = let e = h.some in cc
 some_front (b ∷ bs) rest h = refl
 
--- what stands behind the name, without the space
+-- the arguments after the name, without the space
 args_back : (texts : List (List ℕ)) (args : List Arg) → Reads texts args → args_in (trimmed (operand_text texts)) ≡ Ok args
 args_back [] [] h = refl
 args_back [] (a ∷ more) h = absurd h

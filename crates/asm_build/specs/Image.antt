@@ -12,14 +12,14 @@ use Rattle.asm_build.specs.declared.image.Image.{Image}
 use Rattle.asm_build.specs.Labels.{stood, labelled}
 use Rattle.asm_build.specs.Code.{code_of, words_in}
 
--- a label of an earlier line is a worse fault than a label of no line, and a lesser one than any other kind
+-- a label of an earlier line is a worse fault than a label of no line, and a lesser one than any other kind of its line
 abbrev pub checked : Bool → Result Code AsmKind → Result Code AsmKind
 checked true (Ok code) = Err Twice
 checked true (Err NoLabel) = Err Twice
 checked true (Err kind) = Err kind
 checked false code = code
 
--- Where the labels stand.
+-- The addresses of the labels.
 
 -- every label of a text, at 0
 abbrev pub known_after : List (List ℕ × ℕ) → List Line → List (List ℕ × ℕ)
@@ -34,7 +34,7 @@ size_by (Err kind) = 1
 abbrev pub size_of : List (List ℕ × ℕ) → List (List ℕ × ℕ) → Line → ℕ
 size_of known labels line = size_by (checked (stood line.label labels) (code_of known 0 line.body))
 
--- each label at the address of what follows it, of labels that stand twice the first
+-- each label at the address of what follows it. A label that comes twice keeps its first address
 abbrev pub places_after : List (List ℕ × ℕ) → List (List ℕ × ℕ) → ℕ → List Line → List (List ℕ × ℕ)
 places_after known labels here [] = labels
 places_after known labels here (line ∷ lines) =

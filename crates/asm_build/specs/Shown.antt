@@ -33,7 +33,7 @@ operands_of Control i = register_text i.rd ∷ control_text (cast_unsigned w32 i
 operands_of Alone i = []
 operands_of Fence i = register_text i.rd ∷ register_text i.rs1 ∷ signed_decimal i.imm ∷ []
 
--- each behind a comma and a space
+-- each after a comma and a space
 abbrev pub more_operands : List (List ℕ) → List ℕ
 more_operands [] = []
 more_operands (operand ∷ operands) = 44 ∷ 32 ∷ operand ++ more_operands operands
