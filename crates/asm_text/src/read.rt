@@ -5,7 +5,7 @@ ghost use Rattle.tn_text.specs.Gives.{Becomes, GivesItems};
 ghost use Rattle.tn_text.specs.Lines.{lines_of};
 ghost use Rattle.tn_text.specs.Reading.{said_onto};
 ghost use Rattle.asm_text.specs.Statement.{line_of};
-ghost use Rattle.asm_text.specs.Text.{lines_from};
+ghost use Rattle.asm_text.specs.Text.{IsMisread, lines_from};
 
 use crate::fault::{AsmStop, LineStop};
 use crate::line::Line;
@@ -30,11 +30,9 @@ fn take_line(
     }
 }
 
-/// The lines of a text that are not blank, the first line having the number `first`.
-pub fn read_lines(alloc: Global, text: &[u8], first: u32) -> Result<Vec<Line>, AsmStop>
+fn read(alloc: Global, text: &[u8], first: u32) -> Result<Vec<Line>, AsmStop>
     requires { first + length (lines_of text.now) < 2 ^ 32 }
-    // The lines that the text says, or the first line at fault with the first kind that applies there.
-    ensures read { GivesItems result (lines_from first (lines_of text.now)) }
+    ensures { GivesItems result (lines_from first (lines_of text.now)) }
 {
     let mut lines = Items::new(alloc);
     let mut rest = text;
@@ -47,4 +45,15 @@ pub fn read_lines(alloc: Global, text: &[u8], first: u32) -> Result<Vec<Line>, A
         rest = after;
     }
     Ok(lines.into_vec())
+}
+
+/// The lines of a text that are not blank, the first line having the number `first`.
+pub fn read_lines(alloc: Global, text: &[u8], first: u32) -> Result<Vec<Line>, AsmStop>
+    requires { first + length (lines_of text.now) < 2 ^ 32 }
+    // The lines that the text says, or the first line at fault with the first kind that applies there.
+    ensures read { GivesItems result (lines_from first (lines_of text.now)) }
+    // A line is refused as BadLine or BadNumber. All other kinds are faults of `assemble`.
+    ensures kinds { IsMisread result }
+{
+    read(alloc, text, first)
 }

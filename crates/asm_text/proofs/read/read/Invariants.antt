@@ -2,7 +2,7 @@ use Rattle.std.proofs.Common.{◌≡◌, ◌+◌, length}
 use Rattle.tn_text.specs.Lines.{lines_of}
 use Rattle.tn_text.proofs.ReadFrom.{onto}
 use Rattle.asm_text.specs.Text.{lines_from}
-use Rattle.asm_text.proofs.read.read_lines.Given as goal
+use Rattle.asm_text.proofs.read.read.Given as goal
 
 abbrev pub invariant-loop-line : goal.invariant-loop-line
 invariant-loop-line l = record {
