@@ -113,7 +113,7 @@ same_named TheGraph (TileCode u) n h = cc
 same_named TheGraph (BoardTable a b) n h = cc
 same_named TheGraph TheGraph n h = refl
 
--- How many sections of a list are about a subject.
+-- How many sections of a list have a subject.
 
 abbrev pub mark_by : Subject → Option Subject → ℕ
 mark_by k None = 0
@@ -155,7 +155,7 @@ once_first (Some j) ss n h more =
     (λ e. rw e (more (with_subject j n) (λ k. omega (arith, h k, ap one (named-with k j n), one_or (same k j) (is_named k n)))))
     (cases_Bool (is_named j n))
 
--- sections of which no two are about the same may stand in any order
+-- sections with different subjects may come in any order
 pub named_once : (ss : List Section) (n : Named) → ((k : Subject) → counted k ss + one (is_named k n) ≤ 1) → is_some (named_by n ss) ≡ true
 named_once [] n h = refl
 named_once (s ∷ ss) n h = once_first (subject_of s) ss n h (λ m. named_once ss m)

@@ -20,7 +20,7 @@ use Rattle.job_text.specs.declared.job.TableSection.{TableSection}
 use Rattle.job_text.specs.declared.job.TextSection.{TextSection}
 use Rattle.job_text.specs.declared.draft.Draft.{Draft}
 use Rattle.job_text.specs.Printed.{graph_text, header_text, shape_text, settings_text, code_text, asm_text, fill_text, table_text, script_text, sections_text, text_of}
-use Rattle.job_text.specs.Sections.{graph_sections, sections_of, with_section}
+use Rattle.job_text.specs.Sections.{graph_sections, job_sections, with_section}
 use Rattle.job_text.specs.Text.{start, drafted, ended, job_by, job_of}
 use Rattle.job_text.specs.WellFormed.{AreNumbers, IsWellFormed, ReadsBack, code_unlined, text_unlined, fill_unlined, table_unlined, script_unlined, unlined}
 use Rattle.job_text.proofs.Leads.{Leads, leads_then, IsOutside}
@@ -40,7 +40,7 @@ assoc_six : (c a f t s g : List ℕ) → c ++ a ++ f ++ t ++ s ++ g ≡ c ++ (a 
 assoc_six c a f t s g =
     append_assoc (c ++ a ++ f ++ t) s g ∙ append_assoc (c ++ a ++ f) t (s ++ g) ∙ append_assoc (c ++ a) f (t ++ (s ++ g)) ∙ append_assoc c a (f ++ (t ++ (s ++ g)))
 
-sections_printed : (job : Job) → sections_text job ≡ flat_map section_text (sections_of job)
+sections_printed : (job : Job) → sections_text job ≡ flat_map section_text (job_sections job)
 sections_printed job =
     let g = graph_sections job.graph in
     let s = map (λ l. Script l) job.script ++ g in
@@ -88,7 +88,7 @@ with_graph (Some s) job e = refl
 abbrev filled : Job → Job → Job
 filled base job = record base { codes = base.codes ++ job.codes; asms = base.asms ++ job.asms; fills = base.fills ++ job.fills; tables = base.tables ++ job.tables; script = base.script ++ job.script; graph = job.graph }
 
-with_all : (base job : Job) → base.graph ≡ None → with_sections base (sections_of job) ≡ filled base job
+with_all : (base job : Job) → base.graph ≡ None → with_sections base (job_sections job) ≡ filled base job
 with_all base job none =
     let g = graph_sections job.graph in
     let s = map (λ l. Script l) job.script ++ g in
@@ -159,7 +159,7 @@ settled_job job same = ap (λ (k : ShapeNumbers). record (unlined job) { numbers
 pub reads_back : (job : Job) → IsWellFormed job → ReadsBack job
 reads_back job h =
     let d = settled job.version job.numbers in
-    let ss = sections_of job in
+    let ss = job_sections job in
     let named = some_of _ h.once in
     let r = sections_lead ss d 7 named.0 (inl refl) h.sections named.1 in
     let text = sections_printed job in

@@ -62,7 +62,7 @@ behind_front (b ∷ bs) xs h =
     let both = and_parts (is_space b) (list_all is_space bs) h in
     before_other b (bs ++ xs) (space_hash b both.0) ∙ ap (λ (ys : List ℕ). b ∷ ys) (behind_front bs xs both.1)
 
--- spaces behind a line stand in its comment, or behind what counts
+-- spaces after a line are in its comment, or after its content
 behind_back : (xs back : List ℕ) → list_all is_space back ≡ true
     → (before_comment (xs ++ back) ≡ before_comment xs) ⊎ (before_comment (xs ++ back) ≡ before_comment xs ++ back)
 behind_back [] back h =

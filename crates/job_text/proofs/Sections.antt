@@ -8,7 +8,7 @@ use Rattle.job_text.specs.declared.job.Section.{Section}
 use Rattle.job_text.specs.declared.job.Section.TheVariants.{Code, Asm, Fill, Table, Script, Graph}
 use Rattle.job_text.specs.declared.named.Subject.{Subject}
 use Rattle.job_text.specs.declared.named.Subject.TheVariants.{TheGraph}
-use Rattle.job_text.specs.Sections.{graph_sections, sections_of, with_section}
+use Rattle.job_text.specs.Sections.{graph_sections, job_sections, with_section}
 use Rattle.job_text.specs.WellFormed.{IsSection, IsTable}
 use Rattle.job_text.proofs.Names.{mark, counted, counted-append}
 
@@ -51,7 +51,7 @@ tables_in job = map (λ t. Table t) job.tables
 abbrev script_in : Job → List Section
 script_in job = map (λ l. Script l) job.script
 
--- a graph stands alone
+-- a job has one graph at most
 abbrev pub IsFree : Job → Section → Type 0
 IsFree job (Graph s) = job.graph ≡ None
 IsFree job _ = Unit {0}
@@ -59,7 +59,7 @@ IsFree job _ = Unit {0}
 first_graph : (g : Option TextSection) (s : TextSection) → g ≡ None → Inserted (Graph s) (graph_sections g) (Graph s ∷ [])
 first_graph g s e = record { front = []; back = []; was = rw e refl; is = refl }
 
-pub inserted : (job : Job) (s : Section) → IsFree job s → Inserted s (sections_of job) (sections_of (with_section job s))
+pub inserted : (job : Job) (s : Section) → IsFree job s → Inserted s (job_sections job) (job_sections (with_section job s))
 inserted job (Code s) free = pushed (λ x. Code x) job.codes s _
 inserted job (Asm s) free = under (codes_in job) (Asm s) _ _ (pushed (λ x. Asm x) job.asms s _)
 inserted job (Fill f) free = under (codes_in job) (Fill f) _ _ (under (asms_in job) (Fill f) _ _ (pushed (λ x. Fill x) job.fills f _))
@@ -101,11 +101,11 @@ counted_inserted k s before after i =
     let is = ap (counted k) i.is ∙ counted-append k i.front (s ∷ i.back) in
     omega (arith, was, is)
 
-pub all_with : (P : Section → Type 0) (job : Job) (s : Section) → IsFree job s → AllByRecursion P (sections_of job) → P s → AllByRecursion P (sections_of (with_section job s))
-all_with P job s free h p = all_inserted P s (sections_of job) (sections_of (with_section job s)) (inserted job s free) h p
+pub all_with : (P : Section → Type 0) (job : Job) (s : Section) → IsFree job s → AllByRecursion P (job_sections job) → P s → AllByRecursion P (job_sections (with_section job s))
+all_with P job s free h p = all_inserted P s (job_sections job) (job_sections (with_section job s)) (inserted job s free) h p
 
-pub counted_with : (k : Subject) (job : Job) (s : Section) → IsFree job s → counted k (sections_of (with_section job s)) ≡ counted k (sections_of job) + mark k s
-counted_with k job s free = counted_inserted k s (sections_of job) (sections_of (with_section job s)) (inserted job s free)
+pub counted_with : (k : Subject) (job : Job) (s : Section) → IsFree job s → counted k (job_sections (with_section job s)) ≡ counted k (job_sections job) + mark k s
+counted_with k job s free = counted_inserted k s (job_sections job) (job_sections (with_section job s)) (inserted job s free)
 
 -- A graph that is named by no section is not there.
 
@@ -116,7 +116,7 @@ no_graph : (g : Option TextSection) → counted TheGraph (graph_sections g) ≤ 
 no_graph None h = refl
 no_graph (Some s) h = absurd (omega (arith, h))
 
-pub graph_none : (job : Job) → counted TheGraph (sections_of job) ≡ 0 → job.graph ≡ None
+pub graph_none : (job : Job) → counted TheGraph (job_sections job) ≡ 0 → job.graph ≡ None
 graph_none job h =
     let a = back_least TheGraph (codes_in job) _ 0 (omega (arith, h)) in
     let b = back_least TheGraph (asms_in job) _ 0 a in
@@ -130,13 +130,13 @@ all_mapped : {T : Type 0} (f : T → Section) (P : Section → Type 0) (xs : Lis
 all_mapped f P [] h = tt
 all_mapped f P (x ∷ xs) h = (h.0, all_mapped f P xs h.1)
 
-pub each_asm : (P : Section → Type 0) (job : Job) → AllByRecursion P (sections_of job) → AllByRecursion (λ s. P (Asm s)) job.asms
+pub each_asm : (P : Section → Type 0) (job : Job) → AllByRecursion P (job_sections job) → AllByRecursion (λ s. P (Asm s)) job.asms
 each_asm P job h = all_mapped (λ s. Asm s) P job.asms (all_front P (asms_in job) _ (all_back P (codes_in job) _ h))
 
-pub each_table : (P : Section → Type 0) (job : Job) → AllByRecursion P (sections_of job) → AllByRecursion (λ t. P (Table t)) job.tables
+pub each_table : (P : Section → Type 0) (job : Job) → AllByRecursion P (job_sections job) → AllByRecursion (λ t. P (Table t)) job.tables
 each_table P job h =
     all_mapped (λ t. Table t) P job.tables (all_front P (tables_in job) _ (all_back P (fills_in job) _ (all_back P (asms_in job) _ (all_back P (codes_in job) _ h))))
 
 -- the tables of a job that was read
-pub tables_are : (job : Job) → AllByRecursion IsSection (sections_of job) → AllByRecursion IsTable job.tables
+pub tables_are : (job : Job) → AllByRecursion IsSection (job_sections job) → AllByRecursion IsTable job.tables
 tables_are job h = each_table IsSection job h

@@ -1,4 +1,4 @@
--- What a text says holds together: each section is one that a job may have, and no two are about the same.
+-- What a text says holds together: a job may have each section, and no two sections have the same subject.
 use Rattle.std.proofs.Common.{◌≡◌, ◌⊎◌, ℕ, ◌+◌, ◌-◌, ◌^◌, ◌<◌, ◌≤◌, Bool, true, false, eqb, ltb, cond, List, [], ◌∷◌, ◌++◌, Option, Some, None, length, codes, refl, ap, subst, ◌∙◌, ⊎_elim, inl, inr, arith, append_assoc, length-append, IfOk}
 use Rattle.std.specs.declared.result.Result.{Result}
 use Rattle.std.specs.declared.result.Result.TheVariants.{Ok, Err}
@@ -42,7 +42,7 @@ use Rattle.job_text.specs.Named.{is_named, nothing_named, section_named, subject
 use Rattle.job_text.specs.Numbered.{AreNumbered, IsNumbered}
 use Rattle.job_text.specs.Printed.{feed}
 use Rattle.job_text.specs.SectionLines.{is_whole, section_begun, word_added, word_by, word_line, beat_added, beat_by, beat_line, text_added, with_line}
-use Rattle.job_text.specs.Sections.{sections_of, with_section}
+use Rattle.job_text.specs.Sections.{job_sections, with_section}
 use Rattle.job_text.specs.Text.{version_number, version_by, headed, header_line, shaped, shape_line, set_once, takes_settings, setting_line, closed, opened, opened_by, begun, going_on, inside_line, keyword_line, entry_line, content_line, bare, step, start, drafted, ended, job_by, job_of}
 use Rattle.job_text.specs.WellFormed.{AreNumbers, IsBeat, IsCode, IsGraph, IsSection, IsTable, IsTextLine, IsWellFormed}
 use Rattle.job_text.proofs.Begins.{AreSome, IsWithin, SectionIs, begins, bind_ok, goes_on}
@@ -61,9 +61,9 @@ pub record HeadIs (v : ℕ) (n : ShapeNumbers) : Type 0 where
 -- What is read behind so many lines: a job, what its sections have named, and the section that is open, if there is one.
 pub record Sound (n : ℕ) (job : Job) (named : Named) (open_ones : List Section) : Type 0 where
   pub head : HeadIs job.version job.numbers
-  pub sections : AllByRecursion (SectionIs n) (sections_of job)
+  pub sections : AllByRecursion (SectionIs n) (job_sections job)
   pub inside : AllByRecursion (SectionIs n) open_ones
-  pub once : (k : Subject) → counted k (sections_of job) + counted k open_ones ≡ one (is_named k named)
+  pub once : (k : Subject) → counted k (job_sections job) + counted k open_ones ≡ one (is_named k named)
 
 abbrev pub open_at : Place → List Section
 open_at (Inside s) = s ∷ []
@@ -88,7 +88,7 @@ later m n (s ∷ ss) le h = (record { good = h.0.good; within = within_later m n
 sound_later : (n : ℕ) (job : Job) (named : Named) (ss : List Section) → Sound n job named ss → Sound (n + 1) job named ss
 sound_later n job named ss h = record {
   head = h.head;
-  sections = later n (n + 1) (sections_of job) (omega arith) h.sections;
+  sections = later n (n + 1) (job_sections job) (omega arith) h.sections;
   inside = later n (n + 1) ss (omega arith) h.inside;
   once = h.once;
 }
@@ -200,7 +200,7 @@ head_with job (section.Table t) h = h
 head_with job (section.Script l) h = h
 head_with job (section.Graph s) h = h
 
-is_free : (job : Job) (s : Section) (b : Bool) → counted TheGraph (sections_of job) + counted TheGraph (s ∷ []) ≡ one b → IsFree job s
+is_free : (job : Job) (s : Section) (b : Bool) → counted TheGraph (job_sections job) + counted TheGraph (s ∷ []) ≡ one b → IsFree job s
 is_free job (section.Graph s) b h = graph_none job (omega (arith, h, one_most b))
 is_free job _ b h = tt
 
@@ -255,7 +255,7 @@ take_entry d e n l (w ∷ ws) is some line h c t = take_keyword d e n l w ws (ke
 
 -- Lines inside sections.
 
--- a section with one more line is one that a job may have, and it is about the same
+-- a job may have the section with one more line, and its subject is the same
 abbrev Onto : ℕ → Section → Section → Type 0
 Onto n s t = SectionIs n t × (subject_of t ≡ subject_of s)
 
@@ -334,7 +334,7 @@ same_mark k s t e = rw e refl
 going_sound : (m : ℕ) (job : Job) (named : Named) (s t : Section) → Sound m job named (s ∷ []) → Onto (m + 1) s t → SoundAt (m + 1) (going_on job named t)
 going_sound m job named s t h o = record {
   head = h.head;
-  sections = later m (m + 1) (sections_of job) (omega arith) h.sections;
+  sections = later m (m + 1) (job_sections job) (omega arith) h.sections;
   inside = (o.0, tt);
   once = λ k. omega (arith, h.once k, same_mark k s t o.1);
 }
@@ -434,8 +434,8 @@ well_formed n job j =
       version = h.head.version;
       same_version = h.head.same;
       numbers = h.head.numbers;
-      sections = each_good n (sections_of job) h.sections;
-      once = named_once (sections_of job) nothing_named (λ k. omega (arith, h.once k, one_most (is_named k j.named), ap one (nothing k)));
+      sections = each_good n (job_sections job) h.sections;
+      once = named_once (job_sections job) nothing_named (λ k. omega (arith, h.once k, one_most (is_named k j.named), ap one (nothing k)));
     }
 
 pub gives_well_formed : (r : Result Job (Stop (Fault JobKind))) (lines : List (List ℕ)) → Gives r (job_of lines) → IfOk r (λ job. IsWellFormed job)

@@ -1,4 +1,4 @@
--- What the sections of a job are about, of which a job has one section at most.
+-- What the sections of a job are about. A job has at most one section about a subject.
 use Rattle.std.specs.Prelude.{ℕ, ◌+◌, ◌*◌, ◌^◌, Bool, true, false, List, [], ◌∷◌, if◌then◌else◌, Option, Some, None, option_and_then}
 use Rattle.std.specs.List.{list_any}
 use Rattle.std.specs.Ordering.{nat_cmp}
@@ -30,7 +30,7 @@ abbrev pub owner_subject : Owner → Subject
 owner_subject All = AllCode
 owner_subject (Tile tile) = TileCode tile
 
--- `fill` and `host` lines are about nothing in this sense
+-- a `fill` or `host` line has no subject: a job may have several of them
 abbrev pub subject_of : Section → Option Subject
 subject_of (Code s) = Some (owner_subject s.owner)
 subject_of (Asm s) = Some (owner_subject s.owner)
@@ -60,7 +60,7 @@ abbrev pub subject_named : Named → Option Subject → Option Named
 subject_named named None = Some named
 subject_named named (Some subject) = if is_named subject named then None else Some (with_subject subject named)
 
--- what is named with one more section, if it is not about what was named before
+-- what is named with one more section, unless its subject was named before
 abbrev pub section_named : Named → Section → Option Named
 section_named named section = subject_named named (subject_of section)
 

@@ -71,7 +71,7 @@ host_line n (w ∷ ws) =
     if bytes_eq w (codes "idle") then idle_line n ws
     else (if bytes_eq w (codes "send") then send_by n (two_of ws) else Err BadLine)
 
--- the section that begins on a line: the line's number, its content, its keyword and the words behind
+-- the section that begins on a line: the line's number, its content, its keyword and the words after the keyword
 abbrev pub section_begun : ℕ → List ℕ → Keyword → List (List ℕ) → Result Section JobKind
 section_begun n content (Number setting) words = Err BadLine
 section_begun n content Code words = code_head n words

@@ -10,12 +10,12 @@ graph_sections None = []
 graph_sections (Some s) = Graph s ∷ []
 
 -- the sections in the order in which they are printed: by kind, and by lines within a kind
-abbrev pub sections_of : Job → List Section
-sections_of job =
+abbrev pub job_sections : Job → List Section
+job_sections job =
     map (λ s. Code s) job.codes ++ (map (λ s. Asm s) job.asms ++ (map (λ f. Fill f) job.fills ++ (map (λ t. Table t) job.tables
     ++ (map (λ l. Script l) job.script ++ graph_sections job.graph))))
 
--- a job with one more section, behind the sections of its kind
+-- a job with one more section, after the sections of its kind
 abbrev pub with_section : Job → Section → Job
 with_section job (Code s) = record job { codes = job.codes ++ s ∷ [] }
 with_section job (Asm s) = record job { asms = job.asms ++ s ∷ [] }

@@ -82,7 +82,7 @@ set_once d n setting value =
     then Ok (record d { job = record d.job { numbers = with_setting setting value d.job.numbers; number_lines = with_setting setting n d.job.number_lines } })
     else Err Twice
 
--- settings stand behind the shape and before every section
+-- settings come after the shape and before every section
 abbrev pub takes_settings : Place → Bool
 takes_settings AtSettings = true
 takes_settings _ = false
@@ -92,7 +92,7 @@ setting_line d n setting words = if takes_settings d.place then number_in words 
 
 -- Sections.
 
--- a section is read
+-- a section is read to its end
 abbrev pub closed : Job → Named → Section → Draft
 closed job named s = record { place = AtSections; job = with_section job s; named = named }
 
@@ -103,7 +103,7 @@ abbrev pub opened_by : Job → Section → Option Named → Result Draft JobKind
 opened_by job s None = Err Twice
 opened_by job s (Some named) = Ok (opened job s named)
 
--- a section begins, if no section before it is about the same
+-- a section begins, unless a section before it has the same subject
 abbrev pub begun : Job → Named → Section → Result Draft JobKind
 begun job named s = opened_by job s (section_named named s)
 
@@ -115,7 +115,7 @@ inside_line job named s n content =
     if bytes_eq content (codes "end") then Ok (closed job named s)
     else with_line n content s >>= λ t. Ok (going_on job named t)
 
--- a line behind the shape and outside sections
+-- a line after the shape and outside sections
 
 abbrev pub keyword_line : Draft → ℕ → List ℕ → Option Keyword → List (List ℕ) → Result Draft JobKind
 keyword_line d n content None words = Err BadLine
@@ -128,11 +128,11 @@ entry_line d n content (w ∷ ws) = keyword_line d n content (keyword_of w) ws
 
 -- Any line.
 
--- a line without its comment and outer spaces, if every byte that is left may stand there
+-- a line without its comment and outer spaces, unless one of the bytes before the comment is not allowed
 abbrev pub bare : List ℕ → Option (List ℕ)
 bare line = if is_plain line then Some (content_of line) else None
 
--- a byte that may not stand
+-- the kind of fault of a byte that is not allowed
 abbrev pub foreign_byte : Place → JobKind
 foreign_byte AtHeader = Header
 foreign_byte (AtShape line) = NoShape

@@ -23,7 +23,7 @@ use Rattle.job_text.specs.declared.job.Section.{Section}
 use Rattle.job_text.specs.declared.job.Section.TheVariants.{Code, Asm, Fill, Table, Script, Graph}
 use Rattle.job_text.specs.Named.{named_by, nothing_named}
 use Rattle.job_text.specs.Printed.{feed, text_of}
-use Rattle.job_text.specs.Sections.{sections_of}
+use Rattle.job_text.specs.Sections.{job_sections}
 use Rattle.job_text.specs.Text.{all_at, job_of}
 
 -- What one section may be.
@@ -121,9 +121,9 @@ pub record IsWellFormed (job : Job) : Type 0 where
   pub version : (job.version ≡ 1) ⊎ (job.version ≡ 2)
   pub same_version : job.numbers.version ≡ job.version
   pub numbers : AreNumbers job.numbers
-  pub sections : AllByRecursion IsSection (sections_of job)
-  -- no two of them are about the same
-  pub once : is_some (named_by nothing_named (sections_of job)) ≡ true
+  pub sections : AllByRecursion IsSection (job_sections job)
+  -- no two of them have the same subject
+  pub once : is_some (named_by nothing_named (job_sections job)) ≡ true
 
 -- A job with every line number zero.
 

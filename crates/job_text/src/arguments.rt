@@ -1,4 +1,4 @@
-//! The words behind the first one of a line.
+//! The words after the first word of a line.
 
 ghost use Rattle.std.specs.Prelude.{◌≡◌, [], ◌∷◌};
 ghost use Rattle.tn_text.specs.Numbers.{number_of};

@@ -23,7 +23,7 @@ use tn_text::words::{first_word, two_words};
 #[derive(Drop)]
 pub(crate) enum Place {
     AtHeader,
-    /// Behind the header, where this line is the next.
+    /// After the header. This line is the next.
     AtShape(u32),
     AtSettings,
     AtSections,
@@ -93,7 +93,7 @@ fn default_numbers() -> ShapeNumbers
     }
 }
 
-/// The kind of fault that a byte is, which may not stand.
+/// The kind of fault of a byte that is not allowed.
 fn foreign(place: &Place) -> JobKind
     ensures { result ≡ foreign_byte place.now }
 {
@@ -104,22 +104,22 @@ fn foreign(place: &Place) -> JobKind
     }
 }
 
-/// Settings stand behind the shape and before every section.
+/// Settings come after the shape and before every section.
 fn takes_settings(place: &Place) -> bool
     ensures { result ≡ takes_settings_of place.now }
 {
     matches!(place, Place::AtSettings)
 }
 
-/// A section is read.
+/// A section is read to its end.
 fn closed(job: Job, named: Named, section: Section) -> Result<Draft, LineStop>
     ensures { Gives result (Ok (closed_draft job named section)) }
 {
-    let mut with_section = job;
-    with_section.add(section)?;
+    let mut longer = job;
+    longer.add(section)?;
     Ok(Draft {
         place: Place::AtSections,
-        job: with_section,
+        job: longer,
         named,
     })
 }
@@ -128,17 +128,17 @@ fn closed(job: Job, named: Named, section: Section) -> Result<Draft, LineStop>
 fn begin(job: Job, named: Named, section: Section) -> Result<Draft, LineStop>
     ensures { Gives result (begun job named section) }
 {
-    let mut with_section = named;
-    if !with_section.add_section(&section)? {
+    let mut names = named;
+    if !names.add_section(&section)? {
         return Err(Stop::Fault(JobKind::Twice));
     }
     if is_whole(&section) {
-        return closed(job, with_section, section);
+        return closed(job, names, section);
     }
     Ok(Draft {
         place: Place::Inside(section),
         job,
-        named: with_section,
+        named: names,
     })
 }
 
@@ -244,7 +244,7 @@ impl Draft {
         Ok(set)
     }
 
-    /// A line behind the shape and outside sections.
+    /// A line after the shape and outside sections.
     fn entry_line(self, alloc: Global, number: u32, line: &[u8]) -> Result<Draft, LineStop>
         ensures { Gives result (entry_line self number line.now (words_of line.now)) }
     {
@@ -285,7 +285,7 @@ impl Draft {
         }
     }
 
-    /// The job, at the text's end behind so many lines.
+    /// The job, at the end of a text of so many lines.
     pub(crate) fn finish(self, lines: u32) -> Result<Job, JobStop>
         ensures { Gives result (ended self.place self lines) }
     {

@@ -25,7 +25,7 @@ pub struct CodeSection {
     pub words: Items<u32>,
 }
 
-/// An `asm` section or the graph. Its lines stand without comments and outer spaces, each with a line feed.
+/// An `asm` section or the graph. Its lines are kept without comments and outer spaces, each with a line feed.
 #[derive(Drop)]
 pub struct TextSection {
     pub line: u32,
@@ -104,7 +104,7 @@ pub struct Job {
 }
 
 impl Job {
-    /// Adds a section behind the sections of its kind.
+    /// Adds a section after the sections of its kind.
     pub(crate) fn add(&mut self, section: Section) -> Result<(), AllocError>
         ensures { IfOk result (λ _. self.new ≡ with_section self.old section) }
     {
@@ -129,11 +129,11 @@ pub enum JobKind {
     Header,
     /// The second line is not that of the shape, or there is none.
     NoShape,
-    /// A line of no form, a setting after a section, or a byte that may not stand.
+    /// A line of no form, a setting after a section, or a byte that is not allowed.
     BadLine,
     /// A number of more than 32 bits.
     BadNumber,
-    /// What stands once at most stands again.
+    /// A setting, a tile's code, the code of `all`, a board's table or the graph again.
     Twice,
     /// A section without its `end`. The line is the last one.
     NoEnd,

@@ -10,7 +10,7 @@ ghost use Rattle.job_text.specs.WellFormed.{IsWellFormed, ReadsBack};
 
 use crate::job::Job;
 
-/// Of a line neither the spaces at its ends count nor a comment.
+/// Spaces at the ends of a line do not count, nor does a comment.
 pub fn law_content(_front: &[u8], _line: &[u8], _back: &[u8], _comment: &[u8])
     requires front { list_all is_space _front.now ≡ true }
     requires back { list_all is_space _back.now ≡ true }

@@ -31,7 +31,7 @@ impl NumberSet {
         }
     }
 
-    /// Adds a number, and answers whether it was not there.
+    /// Adds a number, and returns whether the number is new.
     pub(crate) fn add(&mut self, number: u64) -> Result<bool, AllocError>
         ensures added { IfOk result (λ added. added ≡ not (has number self.old)) }
         ensures after { IfOk result (λ _. self.new ≡ with_number number self.old) }
@@ -40,7 +40,7 @@ impl NumberSet {
     }
 }
 
-/// What a section is about, of which a job has one section at most.
+/// What a section is about. A job has at most one section about a subject.
 #[derive(Clone, Copy, PartialEq, Eq, Debug)]
 pub(crate) enum Subject {
     /// The code of each tile that has none of its own.
@@ -95,7 +95,7 @@ impl Named {
         }
     }
 
-    /// Adds a subject, and answers whether it was not there.
+    /// Adds a subject, and returns whether the subject is new.
     fn add(&mut self, subject: Subject) -> Result<bool, AllocError>
         ensures added { IfOk result (λ added. added ≡ not (is_named subject self.old)) }
         ensures after { IfOk result (λ _. self.new ≡ with_subject subject self.old) }
@@ -118,7 +118,7 @@ impl Named {
         }
     }
 
-    /// Adds what a section is about, and answers whether it was not there.
+    /// Adds the subject of a section, and returns whether the subject is new. A section without a subject is new too.
     pub(crate) fn add_section(&mut self, section: &Section) -> Result<bool, AllocError>
         ensures { IfOk result (λ added. section_named self.old section.now ≡ (if added then Some self.new else None)) }
     {

@@ -150,7 +150,7 @@ fn host_line(alloc: Global, number: u32, rest: &[u8]) -> Result<Section, LineSto
     Err(Stop::Fault(JobKind::BadLine))
 }
 
-/// The section that begins on a line with this keyword. `rest` are the words behind the keyword.
+/// The section that begins on a line with this keyword. `rest` are the words after the keyword.
 pub(crate) fn begin_section(
     alloc: Global,
     number: u32,
