@@ -5,17 +5,17 @@ use Rattle.std.specs.declared.result.Result.TheVariants.{Ok, Err}
 use Rattle.std.specs.List.{filter_map, cons_option}
 use Rattle.std.proofs.lemmas.Bool.{leb-true}
 use Rattle.std.proofs.lemmas.List.{map-append}
-use Rattle.asm_text.specs.declared.fault.AsmFault.{AsmFault}
+use Rattle.tn_text.specs.declared.stop.Fault.{Fault}
+use Rattle.tn_text.specs.declared.stop.Stop.{Stop}
+use Rattle.tn_text.specs.Gives.{Gives}
 use Rattle.asm_text.specs.declared.fault.AsmKind.{AsmKind}
 use Rattle.asm_text.specs.declared.fault.AsmKind.TheVariants.{NoLabel}
 use Rattle.asm_text.specs.declared.fault.AsmKind.TheVariants as kinds
-use Rattle.asm_text.specs.declared.fault.AsmStop.{AsmStop}
 use Rattle.asm_text.specs.declared.line.Line.{Line}
 use Rattle.asm_build.specs.declared.code.Code.{Code}
 use Rattle.asm_build.specs.declared.image.Image.{Image}
 use Rattle.asm_build.specs.Assembled.{StandsAt, Spells, IsAssembled}
 use Rattle.asm_build.specs.Code.{code_of, words_in}
-use Rattle.asm_build.specs.Gives.{Gives}
 use Rattle.asm_build.specs.Image.{checked, known_after, size_by, size_of, places_after, places_of, empty_image, limited, line_code, grown, and_then, image_after, image_of}
 use Rattle.asm_build.specs.Labels.{address_of, with_label, stood, labelled}
 use Rattle.asm_build.proofs.Places.{with_new, own, cover_all, keeps_after}
@@ -47,7 +47,7 @@ grown_ok : (image : Image) (line : Line) (r : Result Code AsmKind) (next : Image
 grown_ok image line (Ok code) next h = (code, refl, cc)
 grown_ok image line (Err kind) next h = cc
 
-and_then_ok : (r : Result Image AsmFault) (more : Image → Result Image AsmFault) (final : Image) → and_then r more ≡ Ok final → (next : Image) × (r ≡ Ok next) × (more next ≡ Ok final)
+and_then_ok : (r : Result Image (Fault AsmKind)) (more : Image → Result Image (Fault AsmKind)) (final : Image) → and_then r more ≡ Ok final → (next : Image) × (r ≡ Ok next) × (more next ≡ Ok final)
 and_then_ok (Ok next) more final h = (next, refl, h)
 and_then_ok (Err fault) more final h = cc
 
@@ -148,6 +148,6 @@ is_assembled lines image h =
       labels = ap keys whole.labels ∙ whole.keys;
     }
 
-pub gives_assembled : (r : Result Image AsmStop) (lines : List Line) → Gives r (image_of lines) → IfOk r (λ image. IsAssembled lines image)
+pub gives_assembled : (r : Result Image (Stop (Fault AsmKind))) (lines : List Line) → Gives r (image_of lines) → IfOk r (λ image. IsAssembled lines image)
 gives_assembled (Ok image) lines h = is_assembled lines image h
 gives_assembled (Err stop) lines h = tt

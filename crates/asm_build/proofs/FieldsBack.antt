@@ -70,28 +70,28 @@ upper_back z h =
     let f : cast_unsigned w32 z / 2 ^ 12 < 2 ^ 20 = grind (arith, ints, nat_tests) in
     upper_by (cast_unsigned w32 z / 2 ^ 12) z f e
 
-pub form_fields : (form : Form) (rd rs1 rs2 : ℕ) (imm : ℤ) → IsTrue (form_fits form rd rs1 rs2 imm)
-    → fields_of form [] 0 (form_args form rd rs1 rs2 imm) ≡ Ok (fields_with rd rs1 rs2 imm)
-form_fields Registers rd rs1 rs2 imm h = let e : imm ≡ pos 0 = grind (arith, ints, nat_tests) in ap (λ (z : ℤ). given rd rs1 rs2 z) (sym e)
-form_fields Immediate rd rs1 rs2 imm h = let e : rs2 ≡ 0 = grind (arith, nat_tests) in ap (λ (n : ℕ). given rd rs1 n imm) (sym e)
-form_fields Load rd rs1 rs2 imm h = let e : rs2 ≡ 0 = grind (arith, nat_tests) in ap (λ (n : ℕ). given rd rs1 n imm) (sym e)
-form_fields Fence rd rs1 rs2 imm h = let e : rs2 ≡ 0 = grind (arith, nat_tests) in ap (λ (n : ℕ). given rd rs1 n imm) (sym e)
-form_fields Store rd rs1 rs2 imm h = let e : rd ≡ 0 = grind (arith, nat_tests) in ap (λ (n : ℕ). given n rs1 rs2 imm) (sym e)
-form_fields Branch rd rs1 rs2 imm h = let e : rd ≡ 0 = grind (arith, nat_tests) in ap (λ (n : ℕ). given n rs1 rs2 imm) (sym e)
-form_fields Upper rd rs1 rs2 imm h =
+pub form_fields : (form : Form) (here rd rs1 rs2 : ℕ) (imm : ℤ) → IsTrue (form_fits form rd rs1 rs2 imm)
+    → fields_of form [] here (form_args form rd rs1 rs2 imm) ≡ Ok (fields_with rd rs1 rs2 imm)
+form_fields Registers here rd rs1 rs2 imm h = let e : imm ≡ pos 0 = grind (arith, ints, nat_tests) in ap (λ (z : ℤ). given rd rs1 rs2 z) (sym e)
+form_fields Immediate here rd rs1 rs2 imm h = let e : rs2 ≡ 0 = grind (arith, nat_tests) in ap (λ (n : ℕ). given rd rs1 n imm) (sym e)
+form_fields Load here rd rs1 rs2 imm h = let e : rs2 ≡ 0 = grind (arith, nat_tests) in ap (λ (n : ℕ). given rd rs1 n imm) (sym e)
+form_fields Fence here rd rs1 rs2 imm h = let e : rs2 ≡ 0 = grind (arith, nat_tests) in ap (λ (n : ℕ). given rd rs1 n imm) (sym e)
+form_fields Store here rd rs1 rs2 imm h = let e : rd ≡ 0 = grind (arith, nat_tests) in ap (λ (n : ℕ). given n rs1 rs2 imm) (sym e)
+form_fields Branch here rd rs1 rs2 imm h = let e : rd ≡ 0 = grind (arith, nat_tests) in ap (λ (n : ℕ). given n rs1 rs2 imm) (sym e)
+form_fields Upper here rd rs1 rs2 imm h =
     let e : rs1 ≡ 0 = grind (arith, nat_tests) in
     let f : rs2 ≡ 0 = grind (arith, nat_tests) in
     let g : IsTrue (fits_signed 32 imm && is_multiple 4096 imm) = grind (arith, nat_tests) in
     ap (beside rd 0 0) (upper_back imm g) ∙ ap (λ (n : ℕ). given rd n 0 imm) (sym e) ∙ ap (λ (n : ℕ). given rd rs1 n imm) (sym f)
-form_fields Jump rd rs1 rs2 imm h =
+form_fields Jump here rd rs1 rs2 imm h =
     let e : rs1 ≡ 0 = grind (arith, nat_tests) in
     let f : rs2 ≡ 0 = grind (arith, nat_tests) in
     ap (λ (n : ℕ). given rd n 0 imm) (sym e) ∙ ap (λ (n : ℕ). given rd rs1 n imm) (sym f)
-form_fields Control rd rs1 rs2 imm h =
+form_fields Control here rd rs1 rs2 imm h =
     let e : rs2 ≡ 0 = grind (arith, nat_tests) in
     let f : pos (cast_unsigned w32 imm) ≡ imm = grind (arith, ints, nat_tests) in
     ap (λ (z : ℤ). given rd rs1 0 z) f ∙ ap (λ (n : ℕ). given rd rs1 n imm) (sym e)
-form_fields Alone rd rs1 rs2 imm h =
+form_fields Alone here rd rs1 rs2 imm h =
     let e : rd ≡ 0 = grind (arith, nat_tests) in
     let f : rs1 ≡ 0 = grind (arith, nat_tests) in
     let g : rs2 ≡ 0 = grind (arith, nat_tests) in

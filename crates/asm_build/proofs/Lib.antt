@@ -1,9 +1,11 @@
 pub mod LabelLemmas
 pub mod Fits
+pub mod Lacks
 pub mod Tight
 pub mod Operands
 pub mod FieldsBack
 pub mod ShowBack
+pub mod ShownText
 pub mod LoadLemmas
 pub mod Sizes
 pub mod Places

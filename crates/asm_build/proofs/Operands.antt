@@ -1,9 +1,9 @@
 -- Arguments that were printed are read again.
-use Rattle.std.proofs.Common.{◌≡◌, ℕ, ℤ, pos, negsuc, ◌+◌, ◌*◌, ◌/◌, ◌%◌, ◌^◌, ◌<◌, zero, suc, Bool, true, false, not, ◌&&◌, leb, eqb, ltb, List, [], ◌∷◌, ◌++◌, Option, Some, None, length, take, drop, codes, refl, sym, ap, ◌∙◌, ⊎_elim, arith, one-add, append-nil, append_assoc, length-append, cond, FitsSigned, w32}
+use Rattle.std.proofs.Common.{◌≡◌, ℕ, ℤ, pos, negsuc, ◌+◌, ◌*◌, ◌/◌, ◌%◌, ◌^◌, ◌<◌, zero, suc, Bool, true, false, not, ◌&&◌, leb, eqb, ltb, List, [], ◌∷◌, ◌++◌, Option, Some, None, length, take, drop, codes, refl, sym, ap, ◌∙◌, ⊎_elim, arith, append-nil, cond, FitsSigned, w32}
 use Rattle.std.specs.declared.result.Result.TheVariants.{Ok}
 use Rattle.std.specs.Char.{is_digit, digit_value, digit_char}
 use Rattle.std.specs.Fmt.{decimal, signed_decimal, digits}
-use Rattle.std.specs.List.{list_all, position_or_len}
+use Rattle.std.specs.List.{list_all}
 use Rattle.std.specs.Str.{bytes_eq}
 use Rattle.std.specs.Str.Parse.{digits_value, AllDigits}
 use Rattle.std.specs.Int.Digits.{number_from_digits}
@@ -11,7 +11,6 @@ use Rattle.std.proofs.lemmas.Bool.{and_parts, and_from, lt-ltb, cases_lt, eqb-tr
 use Rattle.std.proofs.lemmas.Bool.Decides.{nat_tests}
 use Rattle.std.proofs.lemmas.Fmt.{decimal_is_IsNumeral}
 use Rattle.std.proofs.lemmas.Int.Digits.{digits_value_is}
-use Rattle.std.proofs.lemmas.List.{take_at, drop_at}
 use Rattle.std.proofs.lemmas.List.Folds.{list_all-append}
 use Rattle.tn_text.specs.declared.numbers.Numeral.{Numeral}
 use Rattle.tn_text.specs.declared.numbers.Numeral.TheVariants.{Value, NoNumber}
@@ -22,9 +21,9 @@ use Rattle.tn_text.specs.Words.{is_some_text}
 use Rattle.tn_text.proofs.Printed.{decimal_read_back}
 use Rattle.asm_text.specs.declared.line.Arg.TheVariants.{Reg, Num, Name, Mem}
 use Rattle.asm_text.specs.Arguments.{arg_by, arg_of, memory_of, memory_by, with_base, base_of, base_by}
-use Rattle.asm_text.specs.Cut.{is_byte, cut_at}
 use Rattle.asm_text.specs.Registers.{register_of}
 use Rattle.asm_build.specs.Shown.{register_text, memory_text, control_text}
+use Rattle.asm_build.proofs.Lacks.{lacks, cut_found}
 use Rattle.asm_build.proofs.Tight.{tight, IsTight, word_trimmed}
 
 both_false : (b : Bool) → (b && false) ≡ false
@@ -181,12 +180,14 @@ three_digits a b c n ha hb hc sum small =
 
 pub control_arg : (n : ℕ) → n < 4096 → arg_of (control_text n) ≡ Ok (Num (pos n))
 control_arg n h =
-    let e : number_of (control_text n) ≡ Value n = three_digits (n / 256 % 16) (n / 16 % 16) (n % 16) n (omega arith) (omega arith) (omega arith) (omega arith) (omega arith) in
-    number_arg (control_text n) (pos n) (no_register 48 (120 ∷ digit_char (n / 256 % 16) ∷ digit_char (n / 16 % 16) ∷ digit_char (n % 16) ∷ []) (omega arith)) (ap positive e)
+    let e : number_of (control_text n) ≡ Value n =
+    three_digits (n / 2 ^ 8 % 256 % 16) (n % 256 / 16) (n % 256 % 16) n (omega arith) (omega arith) (omega arith) (omega arith) (omega arith) in
+    number_arg (control_text n) (pos n) (no_register 48 (drop 1 (control_text n)) (omega arith)) (ap positive e)
 
 pub control_tight : (n : ℕ) → IsTight (control_text n)
 control_tight n =
-    let a = char_tight (n / 256 % 16) (omega arith) in let b = char_tight (n / 16 % 16) (omega arith) in let c = char_tight (n % 16) (omega arith) in
+    let a = char_tight (n / 2 ^ 8 % 256 % 16) (omega arith) in let b = char_tight (n % 256 / 16) (omega arith) in
+    let c = char_tight (n % 256 % 16) (omega arith) in
     record { bytes = rw (a, b, c) refl; some = refl }
 
 -- Numbers with a register in brackets.
@@ -222,27 +223,6 @@ digits_no_name (d ∷ ds) rest h = no_name d (ds ++ rest) (digit_small d h.all.0
 signed_no_name : (z : ℤ) (rest : List ℕ) → FitsSigned w32 z → is_name (signed_decimal z ++ rest) ≡ false
 signed_no_name (pos n) rest h = digits_no_name (decimal n) rest (decimal_digits n (omega arith))
 signed_no_name (negsuc n) rest h = no_name 45 (decimal (suc n) ++ rest) (omega arith)
-
--- no byte of a text is this one
-abbrev lacks : ℕ → List ℕ → Bool
-lacks byte text = list_all (λ b. not (eqb b byte)) text
-
-lacks_place : (byte : ℕ) (w rest : List ℕ) → lacks byte w ≡ true → position_or_len (is_byte byte) (w ++ byte ∷ rest) ≡ length w
-lacks_place byte [] rest h = let e : eqb byte byte ≡ true = grind (arith, nat_tests) in rw e refl
-lacks_place byte (b ∷ bs) rest h =
-    let both = and_parts (not (eqb b byte)) (lacks byte bs) h in
-    let more = lacks_place byte bs rest both.1 in
-    rw (both.0, more) (one-add (length bs))
-
-found_at : (byte : ℕ) (text front rest : List ℕ) (n : ℕ) → position_or_len (is_byte byte) text ≡ n → n < length text → take n text ≡ front → drop (n + 1) text ≡ rest
-    → cut_at byte text ≡ Some (front, rest)
-found_at byte text front rest n e lt f g = let t = lt-ltb n (length text) lt in rw (e, t, f, g) refl
-
-cut_found : (byte : ℕ) (w rest : List ℕ) → lacks byte w ≡ true → cut_at byte (w ++ byte ∷ rest) ≡ Some (w, rest)
-cut_found byte w rest h =
-    found_at byte (w ++ byte ∷ rest) w rest (length w) (lacks_place byte w rest h)
-    (omega (arith, length-append w (byte ∷ rest))) (take_at w (byte ∷ rest) (length w) refl)
-    (ap (drop (length w + 1)) (sym (append_assoc w (byte ∷ []) rest)) ∙ drop_at (w ++ byte ∷ []) rest (length w + 1) (length-append w (byte ∷ [])))
 
 digit_lacks : (byte b : ℕ) → byte < 48 → digit_value b < 10 → not (eqb b byte) ≡ true
 digit_lacks byte b h k = grind (arith, nat_tests)

@@ -1,4 +1,4 @@
--- Where the labels of a text stand.
+-- The addresses of the labels of a text.
 use Rattle.std.proofs.Common.{◌≡◌, ◌⊎◌, inl, inr, ℕ, ◌+◌, ◌*◌, ◌%◌, ◌^◌, Bool, true, false, ◌&&◌, eqb, List, [], ◌∷◌, ◌++◌, Option, Some, None, refl, sym, ap, ◌∙◌, subst, ⊎_elim, eq-eqb}
 use Rattle.std.specs.Str.{bytes_eq}
 use Rattle.std.proofs.lemmas.Bool.{cases_Bool, and_parts, eqb-true}
@@ -109,7 +109,7 @@ cover_after (line ∷ lines) known places sizes here c z =
     cover_after lines (labelled line.label 0 known) (labelled line.label here places) sizes ((here + 4 * size_of sizes places line) % 2 ^ 32)
     (cover_label line.label here known places c z) (zero_label line.label known z)
 
--- every label that stands somewhere is known
+-- every label with an address is known
 pub cover_all : (lines : List Line) (sizes : Labels) → Covers (known_after [] lines) (places_after sizes [] 0 lines)
 cover_all lines sizes = cover_after lines [] [] sizes 0 (record { at = λ name address h. cc h }) (record { at = λ name address h. cc h })
 

@@ -67,7 +67,7 @@ abbrev pub label_code : ℕ → Option ℕ → Result Code AsmKind
 label_code rd (Some address) = address_code rd address
 label_code rd None = Err NoLabel
 
--- the names that stand for other instructions
+-- the names for other instructions
 abbrev pub pseudo_code : Pseudo → List (List ℕ × ℕ) → ℕ → List Arg → Result Code AsmKind
 pseudo_code Nop places here [] = one (word_for Addi 0 0 0 (pos 0))
 pseudo_code Mv places here (Reg rd ∷ Reg rs ∷ []) = one (word_for Addi rd rs 0 (pos 0))
@@ -97,7 +97,7 @@ code_by None None places here args = Err BadName
 abbrev pub instruction_code : List ℕ → List (List ℕ × ℕ) → ℕ → List Arg → Result Code AsmKind
 instruction_code name places here args = code_by (op_named name) (pseudo_named name) places here args
 
--- the words of a line at an address, where the labels stand at these places
+-- the words of a line at an address, where the labels have these addresses
 abbrev pub code_of : List (List ℕ × ℕ) → ℕ → Body → Result Code AsmKind
 code_of places here Empty = Ok Nothing
 code_of places here (Word word) = Ok (One word)

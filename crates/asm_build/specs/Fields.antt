@@ -80,7 +80,7 @@ abbrev pub alone_fields : ℤ → List Arg → Result Fields AsmKind
 alone_fields imm [] = Ok (record { rd = 0; rs1 = 0; rs2 = 0; imm = imm })
 alone_fields imm (arg ∷ args) = Err BadArgs
 
--- a fence that stands alone orders everything
+-- a fence without arguments orders everything
 abbrev pub fence_fields : List Arg → Result Fields AsmKind
 fence_fields [] = alone_fields (pos 0xff) []
 fence_fields (arg ∷ args) = immediate_fields (arg ∷ args)

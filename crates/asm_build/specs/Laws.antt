@@ -1,5 +1,5 @@
 -- What the laws say.
-use Rattle.std.specs.Prelude.{◌≡◌, ℕ, ℤ, ◌+ℤ◌, [], ◌∷◌}
+use Rattle.std.specs.Prelude.{◌≡◌, ℕ, ℤ, ◌+ℤ◌, List, [], ◌∷◌}
 use Rattle.std.specs.declared.result.Result.{Result}
 use Rattle.std.specs.declared.result.Result.TheVariants.{Ok, Err}
 use Rattle.asm_text.specs.declared.fault.AsmKind.{AsmKind}
@@ -8,12 +8,16 @@ use Rattle.rv_isa.specs.declared.op.Op32.TheVariants.{Lui, Addi}
 use Rattle.asm_build.specs.declared.code.Code.{Code}
 use Rattle.asm_build.specs.declared.code.Code.TheVariants.{Nothing, One, Two}
 use Rattle.asm_build.specs.Code.{word_for}
-use Rattle.asm_build.specs.Shown.{shown}
+use Rattle.asm_build.specs.Shown.{shown, shown_text}
 use Rattle.asm_build.specs.Text.{assembled}
 
 -- the canonical line of a word is assembled to exactly this word
 abbrev pub ShowsBack : ℕ → ℕ → Type 0
 ShowsBack first word = assembled first (shown word) ≡ Ok (record { words = word ∷ []; labels = [] })
+
+-- the canonical lines of words are assembled to exactly these words
+abbrev pub ShowsTextBack : ℕ → List ℕ → Type 0
+ShowsTextBack first words = assembled first (shown_text words) ≡ Ok (record { words = words; labels = [] })
 
 -- the words are `addi`, or `lui` and `addi`, and their immediates sum to the number modulo 2^32
 abbrev pub Loads : ℕ → ℕ → Code → Type 0

@@ -4,7 +4,6 @@ pub mod Labels
 pub mod Fields
 pub mod Code
 pub mod Image
-pub mod Gives
 pub mod Shown
 pub mod Assembled
 pub mod Text

@@ -1,6 +1,5 @@
 -- Words as assembly.
-use Rattle.std.specs.Prelude.{ℕ, ℤ, ◌/◌, ◌%◌, ◌^◌, List, [], ◌∷◌, ◌++◌, Option, Some, None, codes, decimal}
-use Rattle.std.specs.Char.{digit_char}
+use Rattle.std.specs.Prelude.{ℕ, ℤ, ◌/◌, ◌^◌, List, [], ◌∷◌, ◌++◌, drop, Option, Some, None, codes, decimal, flat_map}
 use Rattle.std.specs.Fmt.{signed_decimal}
 use Rattle.std.specs.Int.{cast_unsigned, w32}
 use Rattle.tn_text.specs.Hex.{hex_word_text}
@@ -17,9 +16,9 @@ register_text n = 120 ∷ decimal n
 abbrev pub memory_text : ℤ → ℕ → List ℕ
 memory_text offset base = signed_decimal offset ++ (40 ∷ register_text base ++ 41 ∷ [])
 
--- a number below 4096 in three hexadecimal digits
+-- a number below 4096 in the last three of its eight hexadecimal digits
 abbrev pub control_text : ℕ → List ℕ
-control_text n = 48 ∷ 120 ∷ digit_char (n / 256 % 16) ∷ digit_char (n / 16 % 16) ∷ digit_char (n % 16) ∷ []
+control_text n = codes "0x" ++ drop 5 (hex_word_text n)
 
 -- the arguments of an instruction, which has arguments of this form
 abbrev pub operands_of : Form → Instr → List (List ℕ)
@@ -34,7 +33,7 @@ operands_of Control i = register_text i.rd ∷ control_text (cast_unsigned w32 i
 operands_of Alone i = []
 operands_of Fence i = register_text i.rd ∷ register_text i.rs1 ∷ signed_decimal i.imm ∷ []
 
--- each behind a comma and a space
+-- each after a comma and a space
 abbrev pub more_operands : List (List ℕ) → List ℕ
 more_operands [] = []
 more_operands (operand ∷ operands) = 44 ∷ 32 ∷ operand ++ more_operands operands
@@ -61,3 +60,10 @@ shown_by word None = unknown_text word
 -- the canonical line of a word
 abbrev pub shown : ℕ → List ℕ
 shown word = shown_by word (decode_of word)
+
+abbrev pub shown_line : ℕ → List ℕ
+shown_line word = shown word ++ codes "\n"
+
+-- the canonical lines of words, each with its line feed
+abbrev pub shown_text : List ℕ → List ℕ
+shown_text words = flat_map shown_line words

@@ -71,7 +71,7 @@ form_of op = (spelling_of op).1
 unfoldable pub op_named : List ℕ → Option Op32
 op_named name = find (λ op. bytes_eq (name_of op) name) all_ops
 
--- the names that stand for other instructions
+-- the names for other instructions
 abbrev pub pseudo_named : List ℕ → Option Pseudo
 pseudo_named name =
     if bytes_eq name (codes "nop") then Some Nop else

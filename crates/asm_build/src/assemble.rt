@@ -1,15 +1,18 @@
 //! Assembling a text.
 
-ghost use Rattle.std.specs.Prelude.{◌≡◌, [], IfOk};
+ghost use Rattle.std.specs.Prelude.{◌≡◌, ◌+◌, ◌<◌, ◌≤◌, ◌^◌, [], length, IfOk};
+ghost use Rattle.tn_text.specs.Gives.{Gives};
+ghost use Rattle.tn_text.specs.Lines.{lines_of};
 ghost use Rattle.asm_build.specs.Image.{size_of, known_after, places_after, empty_image, image_after, image_of};
 ghost use Rattle.asm_build.specs.Assembled.{IsAssembled};
-ghost use Rattle.asm_build.specs.Gives.{Gives};
+ghost use Rattle.asm_build.specs.Text.{assembled};
 
 use crate::code::find_code;
 use crate::image::{Image, check_label, count};
 use crate::labels::Labels;
 use asm_text::fault::AsmStop;
 use asm_text::line::Line;
+use asm_text::read::read_lines;
 use std::alloc::{AllocError, Global};
 
 /// Every label of a text, at 0.
@@ -23,7 +26,7 @@ fn name_labels(alloc: Global, lines: &[Line]) -> Result<Labels, AllocError>
     Ok(labels)
 }
 
-/// How many words a line has, behind these labels.
+/// How many words a line has, after lines with these labels.
 fn find_size(known: &Labels, labels: &Labels, line: &Line) -> u32
     ensures { result ≡ size_of known.now labels.now line.now }
 {
@@ -47,9 +50,10 @@ fn place_labels(alloc: Global, known: &Labels, lines: &[Line]) -> Result<Labels,
     Ok(labels)
 }
 
-/// The words of a text whose labels stand at these places.
+/// The words of a text whose labels have these addresses.
 fn build(alloc: Global, places: &Labels, lines: &[Line]) -> Result<Image, AsmStop>
-    ensures { Gives result (image_after places.now empty_image lines.now) }
+    ensures image { Gives result (image_after places.now empty_image lines.now) }
+    ensures limit { IfOk result (λ image. length image.words ≤ 16384) }
 {
     let mut image = Image::new(alloc);
     for line in lines {
@@ -60,7 +64,8 @@ fn build(alloc: Global, places: &Labels, lines: &[Line]) -> Result<Image, AsmSto
 
 /// The words of a text, and the addresses of its labels.
 fn assemble_lines(alloc: Global, lines: &[Line]) -> Result<Image, AsmStop>
-    ensures { Gives result (image_of lines.now) }
+    ensures image { Gives result (image_of lines.now) }
+    ensures limit { IfOk result (λ image. length image.words ≤ 16384) }
 {
     let known = name_labels(alloc, lines)?;
     let places = place_labels(alloc, &known, lines)?;
@@ -71,8 +76,20 @@ fn assemble_lines(alloc: Global, lines: &[Line]) -> Result<Image, AsmStop>
 pub fn assemble(alloc: Global, lines: &[Line]) -> Result<Image, AsmStop>
     // The image of the lines, or the first line at fault with the first kind that applies there.
     ensures image { Gives result (image_of lines.now) }
-    // Each line's words are those of its instruction where the image's own labels stand.
+    // Each line's words are those of its instruction at the addresses of the image's own labels.
     ensures assembled { IfOk result (λ image. IsAssembled lines.now image) }
+    ensures limit { IfOk result (λ image. length image.words ≤ 16384) }
 {
     assemble_lines(alloc, lines)
+}
+
+/// The words of a text whose first line has the number `first`, and the addresses of its labels.
+pub fn assemble_text(alloc: Global, text: &[u8], first: u32) -> Result<Image, AsmStop>
+    requires { first + length (lines_of text.now) < 2 ^ 32 }
+    // The image of its lines, or the first line at fault: BadLine and BadNumber on any line are worse than all other kinds.
+    ensures image { Gives result (assembled first text.now) }
+    ensures limit { IfOk result (λ image. length image.words ≤ 16384) }
+{
+    let lines = read_lines(alloc, text, first)?;
+    assemble(alloc, lines.as_slice())
 }

@@ -97,7 +97,7 @@ fn label_words(rd: u8, address: Option<u32>) -> Result<Code, AsmKind>
     }
 }
 
-/// The words of a name that stands for other instructions.
+/// The words of a name for other instructions.
 fn pseudo_words(pseudo: Pseudo, places: &Labels, here: u32, args: &[Arg]) -> Result<Code, AsmKind>
     ensures { result ≡ pseudo_code pseudo places.now here args.now }
 {
@@ -128,7 +128,7 @@ fn op_word(op: Op32, places: &Labels, here: u32, args: &[Arg]) -> Result<Code, A
     one(word(op, fields.rd, fields.rs1, fields.rs2, fields.imm))
 }
 
-/// The words of an instruction at an address, where the labels stand at these places.
+/// The words of an instruction at an address. `places` are the addresses of the labels.
 fn instruction_words(name: &[u8], places: &Labels, here: u32, args: &[Arg]) -> Result<Code, AsmKind>
     ensures { result ≡ instruction_code name.now places.now here args.now }
 {
@@ -141,7 +141,7 @@ fn instruction_words(name: &[u8], places: &Labels, here: u32, args: &[Arg]) -> R
     }
 }
 
-/// The words of a line at an address, where the labels stand at these places.
+/// The words of a line at an address. `places` are the addresses of the labels.
 pub(crate) fn find_code(places: &Labels, here: u32, body: &Body) -> Result<Code, AsmKind>
     ensures { result ≡ code_of places.now here body.now }
 {

@@ -1,78 +1,37 @@
 //! What a text is in words.
 
-ghost use Rattle.std.specs.Prelude.{◌≡◌, ◌+◌, ◌≤◌, [], ◌++◌, length, is_ok, if◌then◌else◌};
+ghost use Rattle.std.specs.Prelude.{◌≡◌, ◌+◌, ◌≤◌, ◌++◌, length, is_ok, if◌then◌else◌, IfOk};
+ghost use Rattle.tn_text.specs.Gives.{Becomes};
 ghost use Rattle.asm_build.specs.Code.{words_in};
 ghost use Rattle.asm_build.specs.Image.{empty_image, limited, checked, line_code, grown};
-ghost use Rattle.asm_build.specs.Gives.{Takes};
 
 use crate::code::{Code, find_code};
 use crate::labels::Labels;
 use asm_text::fault::{AsmFault, AsmKind, AsmStop};
 use asm_text::line::Line;
 use std::alloc::{AllocError, Global};
-use std::marker::Model;
+use tn_text::items::Items;
 
 /// The most words of a text.
 const WORDS: usize = 16_384;
 
-/// At most 16,384 words in order. A contract sees the list.
-#[derive(Drop)]
-pub struct Words {
-    words: Vec<u32>,
-}
-
-impl Model for Words {
-    ghost use Rattle.std.specs.Prelude.{ℕ, ◌≤◌, List, length};
-
-    ghost Value = { List ℕ };
-
-    ghost view = { λ s. s.words.items };
-
-    ghost invariant = { λ s. length s.words.items ≤ 16384 };
-}
-
-impl Words {
-    /// The words in order.
-    pub fn as_slice(&self) -> &[u32]
-        ensures words { result.now ≡ self.now }
-        ensures limit { length self.now ≤ 16384 }
-    {
-        self.words.as_slice()
-    }
-
-    fn new(alloc: Global) -> Words
-        ensures { result ≡ [] }
-    {
-        Words {
-            words: Vec::new(alloc),
-        }
-    }
-
-    fn len(&self) -> usize
-        ensures value { result ≡ length self.now }
-        ensures limit { result ≤ 16384 }
-    {
-        self.words.len()
-    }
-
-    /// Appends the words of a line. Words that are refused stay as they were.
-    fn extend(&mut self, code: Code) -> Result<(), AllocError>
-        requires { length self.old + length (words_in code) ≤ 16384 }
-        ensures { self.new ≡ (if is_ok result then self.old ++ words_in code else self.old) }
-    {
-        match code {
-            Code::Nothing => Ok(()),
-            Code::One(word) => self.words.extend_from_slice(&[word]),
-            Code::Two(first, second) => self.words.extend_from_slice(&[first, second]),
-        }
-    }
-}
-
 /// The words of a text, and the addresses of its labels in order of lines.
 #[derive(Drop)]
 pub struct Image {
-    pub words: Words,
+    /// At most 16,384 words.
+    pub words: Items<u32>,
     pub labels: Labels,
+}
+
+/// Appends the words of a line. Words that are refused stay as they were.
+fn push_code(words: &mut Items<u32>, code: Code) -> Result<(), AllocError>
+    ensures { words.new ≡ (if is_ok result then words.old ++ words_in code else words.old) }
+{
+    match code {
+        Code::Nothing => Ok(()),
+        Code::One(word) => words.extend(&[word]),
+        Code::Two(first, second) => words.extend(&[first, second]),
+    }
 }
 
 /// How many words a line has.
@@ -87,7 +46,7 @@ pub(crate) fn count(code: Code) -> usize
     }
 }
 
-/// The code of a line, of which it is known whether its label stands on an earlier line.
+/// The code of a line. `twice` says whether an earlier line has its label.
 pub(crate) fn check_label(twice: bool, code: Result<Code, AsmKind>) -> Result<Code, AsmKind>
     ensures { result ≡ checked twice code }
 {
@@ -97,10 +56,11 @@ pub(crate) fn check_label(twice: bool, code: Result<Code, AsmKind>) -> Result<Co
     }
 }
 
-/// The code of a line behind so many words.
+/// The code of a line after `done` words.
 fn check_count(done: usize, code: Result<Code, AsmKind>) -> Result<Code, AsmKind>
     requires { done ≤ 16384 }
-    ensures { result ≡ limited done code }
+    ensures code { result ≡ limited done code }
+    ensures limit { IfOk result (λ code. done + length (words_in code) ≤ 16384) }
 {
     match code {
         Ok(code) if done + count(code) > WORDS => Err(AsmKind::TooMany),
@@ -113,14 +73,16 @@ impl Image {
         ensures { result ≡ empty_image }
     {
         Image {
-            words: Words::new(alloc),
+            words: Items::new(alloc),
             labels: Labels::new(alloc),
         }
     }
 
     /// The code of one more line, or the first kind of fault that it has.
     fn find_line(&self, places: &Labels, line: &Line) -> Result<Code, AsmKind>
-        ensures { result ≡ line_code places.now self.now line.now }
+        requires { length self.now.words ≤ 16384 }
+        ensures code { result ≡ line_code places.now self.now line.now }
+        ensures limit { IfOk result (λ code. length self.now.words + length (words_in code) ≤ 16384) }
     {
         let done = self.words.len();
         let code = find_code(places, 4 * done as u32, &line.body);
@@ -129,12 +91,14 @@ impl Image {
 
     /// Appends one more line.
     pub(crate) fn take(&mut self, places: &Labels, line: &Line) -> Result<(), AsmStop>
-        ensures { Takes result self.new (grown self.old line.now (line_code places.now self.old line.now)) }
+        requires { length self.old.words ≤ 16384 }
+        ensures image { Becomes result self.new (grown self.old line.now (line_code places.now self.old line.now)) }
+        ensures limit { length self.new.words ≤ 16384 }
     {
         let address = 4 * self.words.len() as u32;
         match self.find_line(places, line) {
             Ok(code) => {
-                self.words.extend(code)?;
+                push_code(&mut self.words, code)?;
                 self.labels.add_label(&line.label, address)?;
                 Ok(())
             }

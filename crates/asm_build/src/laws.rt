@@ -1,12 +1,19 @@
 //! Laws of assembly and words.
 
-ghost use Rattle.std.specs.Prelude.{◌<◌};
+ghost use Rattle.std.specs.Prelude.{◌<◌, ◌≤◌, length};
 ghost use Rattle.asm_build.specs.Code.{number_code, address_code};
-ghost use Rattle.asm_build.specs.Laws.{ShowsBack, IsLoad};
+ghost use Rattle.asm_build.specs.Laws.{ShowsBack, ShowsTextBack, IsLoad};
 
 /// The line that `show` writes of a word is read, with whatever number, and assembled to exactly this word.
 pub fn law_show(_number: u32, _word: u32)
     ensures { ShowsBack _number _word }
+{}
+
+/// The lines that `show` writes of at most 16,384 words, each with a line feed, are read, with whatever number of the first
+/// line, and assembled to exactly these words.
+pub fn law_show_text(_number: u32, _words: &[u32])
+    requires { length _words.now ≤ 16384 }
+    ensures { ShowsTextBack _number _words.now }
 {}
 
 /// The words that load a number have immediates that sum to it, modulo 2^32; those of an address likewise.

@@ -1,8 +1,8 @@
 //! Assembly and words: `assemble` and `show`.
 //!
-//! The name of each instruction and the form of its arguments stand in `specs/Spelling.antt`, one line each; what a
-//! line is in words in `specs/Code.antt`, by the words of `rv_isa`; what lines are in `specs/Image.antt`, and a text
-//! in `specs/Text.antt`; the line of a word in `specs/Shown.antt`. Read `assemble` first, then `laws`.
+//! `specs/Spelling.antt` has the name of each instruction and the form of its arguments, one line each. What a line is
+//! in words is in `specs/Code.antt`, by the words of `rv_isa`; what lines are is in `specs/Image.antt`, and what a text
+//! is in `specs/Text.antt`. `specs/Shown.antt` has the line of a word. Read `assemble` first, then `laws`.
 #![tactic(auto)]
 
 pub mod assemble;

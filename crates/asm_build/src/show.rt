@@ -1,7 +1,6 @@
 //! Words as assembly.
 
-ghost use Rattle.std.specs.Prelude.{◌≡◌, ◌<◌, IfOk};
-ghost use Rattle.std.specs.Char.{digit_char};
+ghost use Rattle.std.specs.Prelude.{◌≡◌, ◌++◌, IfOk, OnOk};
 ghost use Rattle.asm_build.specs.Shown.{control_text, text_of, operands_of, shown_instr, unknown_text, shown};
 ghost use Rattle.asm_build.specs.declared.spelling.Form.TheVariants.{Registers, Immediate, Load, Store, Branch, Upper, Jump, Control};
 
@@ -69,38 +68,26 @@ fn show_jump(alloc: Global, name: &str, i: &Instr) -> Result<Name, AllocError>
     Ok(Name::of(text.into_bytes()))
 }
 
-/// A digit below 16, in lower case.
-fn hex_digit(digit: u32) -> u8
-    requires { digit < 16 }
-    ensures { result ≡ digit_char digit }
+/// Appends a number below 4,096 in three hexadecimal digits.
+fn push_control(alloc: Global, text: &mut Vec<u8>, number: u32) -> Result<(), AllocError>
+    ensures { OnOk result (text.new.items ≡ text.old.items ++ control_text number) }
 {
-    let digit = digit as u8;
-    if digit < 10 {
-        b'0' + digit
-    } else {
-        b'a' + (digit - 10)
-    }
-}
-
-/// A number below 4,096 in three digits.
-fn hex_digits(number: u32) -> [u8; 5]
-    ensures { result ≡ control_text number }
-{
-    let high = hex_digit(number / 256 % 16);
-    let middle = hex_digit(number / 16 % 16);
-    let low = hex_digit(number % 16);
-    [b'0', b'x', high, middle, low]
+    let mut digits = Vec::new(alloc);
+    push_hex_word(&mut digits, number)?;
+    text.extend_from_slice(b"0x")?;
+    text.extend_from_slice(&digits[5..])?;
+    Ok(())
 }
 
 fn show_control(alloc: Global, name: &str, i: &Instr) -> Result<Name, AllocError>
     ensures { IfOk result (λ line. line ≡ text_of name.now (operands_of Control i.now)) }
 {
     let (rd, rs1) = (i.rd(), i.rs1());
-    let number = hex_digits(i.imm().cast_unsigned());
+    let number = i.imm().cast_unsigned();
     let front = format!(in alloc; "{name} x{rd}, ")?;
     let back = format!(in alloc; ", x{rs1}")?;
     let mut text = front.into_bytes();
-    text.extend_from_slice(&number)?;
+    push_control(alloc, &mut text, number)?;
     text.extend_from_slice(back.as_bytes())?;
     Ok(Name::of(text))
 }

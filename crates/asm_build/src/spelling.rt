@@ -176,7 +176,7 @@ pub(crate) fn op_named(name: &[u8]) -> Option<Op32>
     named_among(name, &OPS)
 }
 
-/// The other name that stands for instructions.
+/// The name for other instructions that a text is.
 pub(crate) fn pseudo_named(name: &[u8]) -> Option<Pseudo>
     ensures { result ≡ pseudo_named_of name.now }
 {

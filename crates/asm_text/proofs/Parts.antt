@@ -5,7 +5,7 @@ use Rattle.std.proofs.lemmas.Bool.{cases_Bool}
 use Rattle.std.proofs.lemmas.List.Splits.{slice_split_first, slice_split-cons_no}
 use Rattle.asm_text.specs.Cut.{is_byte, parts_at, CutsAt}
 
--- where no such element stands, the list is the one part
+-- a list without such an element is the one part
 split_whole : (p : ℕ → Bool) (xs : List ℕ) → length xs ≤ position_or_len p xs → slice_split p xs ≡ xs ∷ []
 split_whole p [] h = refl
 split_whole p (x ∷ xs) h =

@@ -9,12 +9,12 @@ use Rattle.tn_text.specs.Names.{is_name}
 use Rattle.tn_text.specs.Numbers.{signed_number_of}
 use Rattle.asm_text.specs.declared.line.Arg.{Arg}
 use Rattle.asm_text.specs.declared.line.Arg.TheVariants.{Reg, Num, Name, Mem}
-use Rattle.asm_text.specs.declared.fault.Misread.{Misread}
-use Rattle.asm_text.specs.declared.fault.Misread.TheVariants.{BadLine, BadNumber}
+use Rattle.asm_text.specs.declared.fault.AsmKind.{AsmKind}
+use Rattle.asm_text.specs.declared.fault.AsmKind.TheVariants.{BadLine, BadNumber}
 use Rattle.asm_text.specs.Cut.{cut_at, parts_at}
 use Rattle.asm_text.specs.Registers.{register_of}
 
--- nothing stands behind the bracket that ends a number's register
+-- the bracket ends the text
 abbrev pub register_before : List ℕ → List ℕ → Option ℕ
 register_before front [] = register_of (trimmed front)
 register_before front (b ∷ bs) = None
@@ -27,43 +27,43 @@ base_by (Some parts) = register_before parts.0 parts.1
 abbrev pub base_of : List ℕ → Option ℕ
 base_of text = base_by (cut_at 41 text)
 
-abbrev pub with_base : Numeral ℤ → Option ℕ → Result Arg Misread
+abbrev pub with_base : Numeral ℤ → Option ℕ → Result Arg AsmKind
 with_base _ None = Err BadLine
 with_base (Value n) (Some base) = Ok (Mem n base)
 with_base TooLarge (Some base) = Err BadNumber
 with_base NoNumber (Some base) = Err BadLine
 
-abbrev pub memory_by : Option (List ℕ × List ℕ) → Result Arg Misread
+abbrev pub memory_by : Option (List ℕ × List ℕ) → Result Arg AsmKind
 memory_by None = Err BadLine
 memory_by (Some parts) = with_base (signed_number_of (trimmed parts.0)) (base_of parts.1)
 
--- a number with a register in brackets behind it
-abbrev pub memory_of : List ℕ → Result Arg Misread
+-- a number, and after it a register in brackets
+abbrev pub memory_of : List ℕ → Result Arg AsmKind
 memory_of text = memory_by (cut_at 40 text)
 
 -- a register is never a label
-abbrev pub arg_by : Option ℕ → Numeral ℤ → List ℕ → Result Arg Misread
+abbrev pub arg_by : Option ℕ → Numeral ℤ → List ℕ → Result Arg AsmKind
 arg_by (Some register) _ text = Ok (Reg register)
 arg_by None (Value n) text = Ok (Num n)
 arg_by None TooLarge text = Err BadNumber
 arg_by None NoNumber text = if is_name text then Ok (Name text) else memory_of text
 
-abbrev pub arg_of : List ℕ → Result Arg Misread
+abbrev pub arg_of : List ℕ → Result Arg AsmKind
 arg_of text = arg_by (register_of text) (signed_number_of text) text
 
--- no argument is a worse fault than a number that is too large, wherever on the line it stands
-abbrev pub arg_before : Result Arg Misread → Result (List Arg) Misread → Result (List Arg) Misread
-arg_before (Err BadLine) more = Err BadLine
+-- an argument of no form is a worse fault than a number that is too large, whichever comes first
+abbrev pub arg_before : Result Arg AsmKind → Result (List Arg) AsmKind → Result (List Arg) AsmKind
 arg_before (Err BadNumber) (Ok args) = Err BadNumber
 arg_before (Err BadNumber) (Err kind) = Err kind
+arg_before (Err kind) more = Err kind
 arg_before (Ok arg) (Ok args) = Ok (arg ∷ args)
 arg_before (Ok arg) (Err kind) = Err kind
 
-abbrev pub args_of : List (List ℕ) → Result (List Arg) Misread
+abbrev pub args_of : List (List ℕ) → Result (List Arg) AsmKind
 args_of [] = Ok []
 args_of (part ∷ parts) = arg_before (arg_of (trimmed part)) (args_of parts)
 
--- what stands between commas, if anything stands there
-abbrev pub args_in : List ℕ → Result (List Arg) Misread
+-- the arguments between commas. An empty text has none
+abbrev pub args_in : List ℕ → Result (List Arg) AsmKind
 args_in [] = Ok []
 args_in (b ∷ bs) = args_of (parts_at 44 (b ∷ bs))

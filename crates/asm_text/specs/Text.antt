@@ -1,24 +1,27 @@
 -- What a text says, line by line.
-use Rattle.std.specs.Prelude.{ℕ, ◌+◌, List, [], ◌∷◌, Option, Some, None}
+use Rattle.std.specs.Prelude.{◌≡◌, ℕ, Bool, true, false, List}
 use Rattle.std.specs.declared.result.Result.{Result}
 use Rattle.std.specs.declared.result.Result.TheVariants.{Ok, Err}
+use Rattle.tn_text.specs.declared.stop.Fault.{Fault}
+use Rattle.tn_text.specs.declared.stop.Stop.{Stop}
+use Rattle.tn_text.specs.declared.stop.Stop.TheVariants as stops
+use Rattle.tn_text.specs.Reading.{read_from}
+use Rattle.asm_text.specs.declared.fault.AsmKind.{AsmKind}
+use Rattle.asm_text.specs.declared.fault.AsmKind.TheVariants.{BadLine, BadNumber}
 use Rattle.asm_text.specs.declared.line.Line.{Line}
-use Rattle.asm_text.specs.declared.fault.AsmFault.{AsmFault}
-use Rattle.asm_text.specs.declared.fault.Misread.{Misread}
-use Rattle.asm_text.specs.Gives.{fault_at}
 use Rattle.asm_text.specs.Statement.{line_of}
 
-abbrev pub onto_lines : Line → Result (List Line) AsmFault → Result (List Line) AsmFault
-onto_lines line (Ok lines) = Ok (line ∷ lines)
-onto_lines line (Err fault) = Err fault
+-- the lines that are not blank, the first line having this number, or the first line at fault
+abbrev pub lines_from : ℕ → List (List ℕ) → Result (List Line) (Fault AsmKind)
+lines_from number lines = read_from line_of number lines
 
--- a faulty line counts before those that come after it, and a blank line says nothing
-abbrev pub line_before : ℕ → Result (Option Line) Misread → Result (List Line) AsmFault → Result (List Line) AsmFault
-line_before number (Ok (Some line)) more = onto_lines line more
-line_before number (Ok None) more = more
-line_before number (Err kind) more = Err (fault_at number kind)
+abbrev pub is_misread : AsmKind → Bool
+is_misread BadLine = true
+is_misread BadNumber = true
+is_misread _ = false
 
--- the lines from this number on, or the first fault
-abbrev pub lines_from : ℕ → List (List ℕ) → Result (List Line) AsmFault
-lines_from number [] = Ok []
-lines_from number (l ∷ ls) = line_before number (line_of number l) (lines_from (number + 1) ls)
+-- a fault is BadLine or BadNumber
+abbrev pub IsMisread : {X : Type 0} → Result X (Stop (Fault AsmKind)) → Type 0
+IsMisread (Ok x) = Unit {0}
+IsMisread (Err stops.Memory) = Unit {0}
+IsMisread (Err (stops.Fault fault)) = is_misread fault.kind ≡ true

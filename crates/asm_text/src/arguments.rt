@@ -3,20 +3,22 @@
 ghost use Rattle.std.specs.Prelude.{◌≡◌, [], IfOk};
 ghost use Rattle.std.specs.declared.result.Result.TheVariants.{Ok};
 ghost use Rattle.tn_text.specs.Content.{trimmed as trimmed_of};
+ghost use Rattle.tn_text.specs.Gives.{Becomes, Gives};
 ghost use Rattle.asm_text.specs.Cut.{parts_at};
 ghost use Rattle.asm_text.specs.Arguments.{base_of, memory_of, arg_of, args_of, args_in};
-ghost use Rattle.asm_text.specs.Reading.{joined, Takes};
-ghost use Rattle.asm_text.specs.Gives.{GivesValue};
+ghost use Rattle.asm_text.specs.Reading.{joined, taken};
 
 use crate::cut::cut;
-use crate::fault::{LineStop, Misread};
-use crate::line::{Arg, Args};
+use crate::fault::{AsmKind, LineStop};
+use crate::line::Arg;
 use crate::registers::find_register;
 use std::alloc::{AllocError, Global};
 use tn_base::name::Name;
 use tn_text::content::trimmed;
+use tn_text::items::Items;
 use tn_text::names::is_name;
 use tn_text::numbers::{Numeral, signed_number};
+use tn_text::stop::Stop;
 
 /// A name of these bytes.
 pub(crate) fn copy_name(alloc: Global, text: &[u8]) -> Result<Name, AllocError>
@@ -41,30 +43,30 @@ fn base(text: &[u8]) -> Option<u8>
 
 /// A number with a register in brackets.
 fn read_memory(text: &[u8]) -> Result<Arg, LineStop>
-    ensures { GivesValue result (memory_of text.now) }
+    ensures { Gives result (memory_of text.now) }
 {
     let Some((front, rest)) = cut(text, b'(') else {
-        return Err(LineStop::Misread(Misread::BadLine));
+        return Err(Stop::Fault(AsmKind::BadLine));
     };
     let Some(base) = base(rest) else {
-        return Err(LineStop::Misread(Misread::BadLine));
+        return Err(Stop::Fault(AsmKind::BadLine));
     };
     match signed_number(trimmed(front)) {
         Numeral::Value(offset) => Ok(Arg::Mem(offset, base)),
-        Numeral::TooLarge => Err(LineStop::Misread(Misread::BadNumber)),
-        Numeral::NoNumber => Err(LineStop::Misread(Misread::BadLine)),
+        Numeral::TooLarge => Err(Stop::Fault(AsmKind::BadNumber)),
+        Numeral::NoNumber => Err(Stop::Fault(AsmKind::BadLine)),
     }
 }
 
 fn read_arg(alloc: Global, text: &[u8]) -> Result<Arg, LineStop>
-    ensures { GivesValue result (arg_of text.now) }
+    ensures { Gives result (arg_of text.now) }
 {
     if let Some(register) = find_register(text) {
         return Ok(Arg::Reg(register));
     }
     match signed_number(text) {
         Numeral::Value(number) => return Ok(Arg::Num(number)),
-        Numeral::TooLarge => return Err(LineStop::Misread(Misread::BadNumber)),
+        Numeral::TooLarge => return Err(Stop::Fault(AsmKind::BadNumber)),
         Numeral::NoNumber => {}
     }
     if is_name(text) {
@@ -76,39 +78,39 @@ fn read_arg(alloc: Global, text: &[u8]) -> Result<Arg, LineStop>
 /// Arguments that are being read, and whether one had a number that is too large.
 #[derive(Drop)]
 struct Reading {
-    args: Args,
+    args: Items<Arg>,
     too_large: bool,
 }
 
 impl Reading {
     /// Reads one more argument.
     fn take(&mut self, alloc: Global, part: &[u8]) -> Result<(), LineStop>
-        ensures { Takes result self.old self.new (arg_of (trimmed_of part.now)) }
+        ensures { Becomes result self.new (taken self.old (arg_of (trimmed_of part.now))) }
     {
         match read_arg(alloc, trimmed(part)) {
             Ok(arg) => self.args.push(arg)?,
-            Err(LineStop::Misread(Misread::BadNumber)) => self.too_large = true,
+            Err(Stop::Fault(AsmKind::BadNumber)) => self.too_large = true,
             Err(stop) => return Err(stop),
         }
         Ok(())
     }
 
-    fn finish(self) -> Result<Args, LineStop>
-        ensures { GivesValue result (joined self.args self.too_large (Ok [])) }
+    fn finish(self) -> Result<Items<Arg>, LineStop>
+        ensures { Gives result (joined self.args self.too_large (Ok [])) }
     {
         if self.too_large {
-            return Err(LineStop::Misread(Misread::BadNumber));
+            return Err(Stop::Fault(AsmKind::BadNumber));
         }
         Ok(self.args)
     }
 }
 
-/// The arguments of a text in which something stands.
-fn read_parts(alloc: Global, text: &[u8]) -> Result<Args, LineStop>
-    ensures { GivesValue result (args_of (parts_at 44 text.now)) }
+/// The arguments of a text that is not empty.
+fn read_parts(alloc: Global, text: &[u8]) -> Result<Items<Arg>, LineStop>
+    ensures { Gives result (args_of (parts_at 44 text.now)) }
 {
     let mut reading = Reading {
-        args: Args::new(alloc),
+        args: Items::new(alloc),
         too_large: false,
     };
     let mut rest = text;
@@ -120,12 +122,12 @@ fn read_parts(alloc: Global, text: &[u8]) -> Result<Args, LineStop>
     reading.finish()
 }
 
-/// The arguments of a text, parted by commas.
-pub(crate) fn read_args(alloc: Global, text: &[u8]) -> Result<Args, LineStop>
-    ensures { GivesValue result (args_in text.now) }
+/// The arguments of a text, with commas between them.
+pub(crate) fn read_args(alloc: Global, text: &[u8]) -> Result<Items<Arg>, LineStop>
+    ensures { Gives result (args_in text.now) }
 {
     if text.is_empty() {
-        return Ok(Args::new(alloc));
+        return Ok(Items::new(alloc));
     }
     read_parts(alloc, text)
 }

@@ -1,14 +1,11 @@
 //! Why a text is no assembly.
 
-ghost use Rattle.std.specs.Prelude.{◌≡◌};
-ghost use Rattle.asm_text.specs.Gives.{stop_at};
-
-use std::alloc::AllocError;
+use tn_text::stop::{Fault, Stop};
 
 /// What is wrong with a line. Of several kinds that a line has, the first counts.
 #[derive(Clone, Copy, PartialEq, Eq, Debug)]
 pub enum AsmKind {
-    /// A line of no form, or a byte that may not stand.
+    /// A line of no form, or a byte that is not allowed.
     BadLine,
     /// No instruction has this name.
     BadName,
@@ -18,72 +15,19 @@ pub enum AsmKind {
     BadNumber,
     /// A number that does not fit its field, or an odd offset.
     OutOfRange,
-    /// A label that stands on an earlier line.
+    /// A label of an earlier line.
     Twice,
-    /// A label that stands on no line.
+    /// A label of no line.
     NoLabel,
     /// A word above the limit.
     TooMany,
 }
 
 /// The first line at fault.
-#[derive(Clone, Copy, PartialEq, Eq, Debug)]
-pub struct AsmFault {
-    pub line: u32,
-    pub kind: AsmKind,
-}
+pub type AsmFault = Fault<AsmKind>;
 
 /// Why there is no answer.
-#[derive(Clone, Copy, PartialEq, Eq, Debug)]
-pub enum AsmStop {
-    Fault(AsmFault),
-    Memory,
-}
+pub type AsmStop = Stop<AsmFault>;
 
-impl From<AllocError> for AsmStop {
-    ghost use Rattle.std.specs.Prelude.{◌≡◌};
-    ghost use Rattle.asm_text.specs.declared.fault.AsmStop.TheVariants.{Memory};
-
-    ghost from_gives = { λ _ stop. stop ≡ Memory };
-
-    fn from(_: AllocError) -> AsmStop {
-        AsmStop::Memory
-    }
-}
-
-/// Why a line is not read: the kinds that reading finds, which the definitions on lines name.
-#[derive(Clone, Copy, PartialEq, Eq, Debug)]
-pub enum Misread {
-    BadLine,
-    BadNumber,
-}
-
-/// Why there is no line.
-#[derive(Clone, Copy, PartialEq, Eq, Debug)]
-pub(crate) enum LineStop {
-    Misread(Misread),
-    Memory,
-}
-
-impl From<AllocError> for LineStop {
-    ghost use Rattle.std.specs.Prelude.{◌≡◌};
-    ghost use Rattle.asm_text.specs.declared.fault.LineStop.TheVariants.{Memory};
-
-    ghost from_gives = { λ _ stop. stop ≡ Memory };
-
-    fn from(_: AllocError) -> LineStop {
-        LineStop::Memory
-    }
-}
-
-/// The answer that a line stops a text with.
-pub(crate) fn stopped(line: u32, stop: LineStop) -> AsmStop
-    ensures { result ≡ stop_at line stop }
-{
-    let kind = match stop {
-        LineStop::Memory => return AsmStop::Memory,
-        LineStop::Misread(Misread::BadLine) => AsmKind::BadLine,
-        LineStop::Misread(Misread::BadNumber) => AsmKind::BadNumber,
-    };
-    AsmStop::Fault(AsmFault { line, kind })
-}
+/// Why a line is not read: `BadLine`, `BadNumber` or want of memory.
+pub(crate) type LineStop = Stop<AsmKind>;

@@ -1,7 +1,7 @@
 //! Assembly as texts, line by line: `read_lines`.
 //!
-//! What a text says stands in `specs/Text.antt`, by whole lines, what a line says in `specs/Statement.antt`, and
-//! its arguments in `specs/Arguments.antt`. Read `read_lines` first.
+//! `specs/Text.antt` says what a text is by whole lines, `specs/Statement.antt` what a line says, and
+//! `specs/Arguments.antt` what its arguments are. Lists, faults and lines are `tn_text`'s. Read `read_lines` first.
 #![tactic(auto)]
 
 mod arguments;

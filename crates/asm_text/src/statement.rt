@@ -1,33 +1,34 @@
 //! What one line says.
 
 ghost use Rattle.std.specs.Prelude.{◌≡◌};
+ghost use Rattle.tn_text.specs.Gives.{Gives};
 ghost use Rattle.asm_text.specs.Statement.{word_body, body_of, line_by, line_of};
-ghost use Rattle.asm_text.specs.Gives.{GivesValue};
 
 use crate::arguments::{copy_name, read_args};
 use crate::cut::cut;
-use crate::fault::{LineStop, Misread};
+use crate::fault::{AsmKind, LineStop};
 use crate::line::{Body, Line, word_number};
 use std::alloc::Global;
 use tn_text::content::{content, is_plain, trimmed};
 use tn_text::names::is_name;
 use tn_text::numbers::{Numeral, signed_number};
+use tn_text::stop::Stop;
 use tn_text::words::first_word;
 
 /// What `.word` places.
 fn read_word(operands: &[u8]) -> Result<Body, LineStop>
-    ensures { GivesValue result (word_body operands.now) }
+    ensures { Gives result (word_body operands.now) }
 {
     match signed_number(operands) {
         Numeral::Value(number) => Ok(Body::Word(word_number(number))),
-        Numeral::TooLarge => Err(LineStop::Misread(Misread::BadNumber)),
-        Numeral::NoNumber => Err(LineStop::Misread(Misread::BadLine)),
+        Numeral::TooLarge => Err(Stop::Fault(AsmKind::BadNumber)),
+        Numeral::NoNumber => Err(Stop::Fault(AsmKind::BadLine)),
     }
 }
 
-/// What stands on a line behind its label.
+/// What a line says after its label.
 fn read_body(alloc: Global, text: &[u8]) -> Result<Body, LineStop>
-    ensures { GivesValue result (body_of text.now) }
+    ensures { Gives result (body_of text.now) }
 {
     let Some((word, rest)) = first_word(text) else {
         return Ok(Body::Empty);
@@ -37,16 +38,16 @@ fn read_body(alloc: Global, text: &[u8]) -> Result<Body, LineStop>
         return read_word(operands);
     }
     if !is_name(word) {
-        return Err(LineStop::Misread(Misread::BadLine));
+        return Err(Stop::Fault(AsmKind::BadLine));
     }
     let args = read_args(alloc, operands)?;
     let name = copy_name(alloc, word)?;
     Ok(Body::Ins { name, args })
 }
 
-/// What stands on a line that is not blank.
+/// What a line says that is not blank.
 fn read_statement(alloc: Global, number: u32, text: &[u8]) -> Result<Line, LineStop>
-    ensures { GivesValue result (line_by number text.now) }
+    ensures { Gives result (line_by number text.now) }
 {
     let Some((front, rest)) = cut(text, b':') else {
         let body = read_body(alloc, text)?;
@@ -58,7 +59,7 @@ fn read_statement(alloc: Global, number: u32, text: &[u8]) -> Result<Line, LineS
     };
     let name = trimmed(front);
     if !is_name(name) {
-        return Err(LineStop::Misread(Misread::BadLine));
+        return Err(Stop::Fault(AsmKind::BadLine));
     }
     let body = read_body(alloc, rest)?;
     let label = Some(copy_name(alloc, name)?);
@@ -71,10 +72,10 @@ fn read_statement(alloc: Global, number: u32, text: &[u8]) -> Result<Line, LineS
 
 /// What a line says, or None where it is blank.
 pub(crate) fn read_line(alloc: Global, number: u32, line: &[u8]) -> Result<Option<Line>, LineStop>
-    ensures { GivesValue result (line_of number line.now) }
+    ensures { Gives result (line_of number line.now) }
 {
     if !is_plain(line) {
-        return Err(LineStop::Misread(Misread::BadLine));
+        return Err(Stop::Fault(AsmKind::BadLine));
     }
     let text = content(line);
     if text.is_empty() {

@@ -2,50 +2,24 @@
 use Rattle.std.proofs.Common.{◌≡◌, ℕ, ◌+◌, ◌<◌, ◌∷◌, [], List, Option, None, length, drop, get_or, refl, sym}
 use Rattle.std.specs.declared.result.Result.{Result}
 use Rattle.std.specs.declared.result.Result.TheVariants.{Ok, Err}
-use Rattle.std.specs.declared.vec.Vec.{Vec}
 use Rattle.std.specs.List.{AllByRecursion}
-use Rattle.tn_text.specs.Lines.{lines_of}
-use Rattle.asm_text.specs.declared.fault.AsmFault.{AsmFault}
-use Rattle.asm_text.specs.declared.fault.AsmStop.{AsmStop}
-use Rattle.asm_text.specs.declared.fault.AsmStop.TheVariants as asm
-use Rattle.asm_text.specs.declared.line.Line.{Line}
-use Rattle.asm_text.specs.Gives.{Gives as Reads}
-use Rattle.asm_text.specs.Text.{lines_from}
+use Rattle.tn_text.specs.declared.stop.Fault.{Fault as At}
+use Rattle.asm_text.specs.declared.fault.AsmKind.{AsmKind}
 use Rattle.asm_build.specs.declared.image.Image.{Image}
-use Rattle.asm_build.specs.Gives.{Gives as Builds}
-use Rattle.asm_build.specs.Image.{image_of as image_of_lines}
 use Rattle.job_text.specs.declared.job.TextSection.{TextSection}
 use Rattle.job_load.specs.declared.fault.LoadFault.{LoadFault}
 use Rattle.job_load.specs.declared.fault.LoadStop.{LoadStop}
 use Rattle.job_load.specs.declared.fault.LoadStop.TheVariants.{Fault, Memory}
 use Rattle.job_text.specs.Numbered.{IsNumbered}
-use Rattle.job_load.specs.Assembly.{IsStop, asms_fault, fault_by, image_from, image_of}
+use Rattle.job_load.specs.Assembly.{IsStop, asms_fault, fault_by, image_of}
 use Rattle.job_load.proofs.Ranges.{rest_first}
 
--- A text is read and built.
-
-unread_by : (A : Type 0) (stop : AsmStop) (first : ℕ) (text : List ℕ) → Reads {A = A} (Err stop) (lines_from first (lines_of text)) → Builds (Err stop) (image_from first text)
-unfolding image_from
-unread_by A asm.Memory first text h = tt
-unread_by A (asm.Fault fault) first text h = rw h refl
-
-pub unread : {A : Type 0} (r : Result (Vec Line A) AsmStop) (stop : AsmStop) (first : ℕ) (text : List ℕ) → r ≡ Err stop → Reads r (lines_from first (lines_of text)) →
-    Builds (Err stop) (image_from first text)
-unread {A} r stop first text e h = unread_by A stop first text (rw e at h)
-
-pub built : {A : Type 0} (lines : Vec Line A) (result : Result Image AsmStop) (first : ℕ) (text : List ℕ) → Reads (Ok lines) (lines_from first (lines_of text)) →
-    Builds result (image_of_lines lines.items) → Builds result (image_from first text)
-unfolding image_from
-built lines result first text h k = rw h k
-
--- Sections in order.
-
-stop_first : (r : Result Image AsmFault) (others : Option LoadFault) (stop : LoadStop) → IsStop stop (fault_by r None) → IsStop stop (fault_by r others)
+stop_first : (r : Result Image (At AsmKind)) (others : Option LoadFault) (stop : LoadStop) → IsStop stop (fault_by r None) → IsStop stop (fault_by r others)
 stop_first r others Memory h = tt
 stop_first (Ok image) others (Fault fault) h = cc
 stop_first (Err other) others (Fault fault) h = h
 
-none_first : (r : Result Image AsmFault) (others : Option LoadFault) → fault_by r None ≡ None → fault_by r others ≡ others
+none_first : (r : Result Image (At AsmKind)) (others : Option LoadFault) → fault_by r None ≡ None → fault_by r others ≡ others
 none_first (Ok image) others h = refl
 none_first (Err fault) others h = cc
 

@@ -1,6 +1,6 @@
 -- The tables of boards, and the first board at fault.
-use Rattle.std.proofs.Common.{ℕ, ◌≡◌, ◌≤◌, ◌<◌, ◌+◌, ◌-◌, ◌*◌, ◌/◌, ◌%◌, ◌∷◌, ◌++◌, ◌∙◌, [], Bool, true, false, List, Option, Some, None, get_or, length, map, option_map, zero, suc, refl, sym, ap, inl, inr, arith, cond, Global}
-use Rattle.std.specs.List.{AllByRecursion, cons_option, filter_map, find, range_with_len}
+use Rattle.std.proofs.Common.{ℕ, ◌≡◌, ◌≤◌, ◌<◌, ◌+◌, ◌-◌, ◌∷◌, ◌++◌, ◌∙◌, [], Bool, true, false, List, Option, Some, None, length, map, zero, suc, refl, sym, ap, inl, inr, arith, cond, Global}
+use Rattle.std.specs.List.{AllByRecursion, cons_option, find, range_with_len}
 use Rattle.std.specs.Option.{option_or}
 use Rattle.std.specs.Result.{result_ok}
 use Rattle.std.specs.declared.result.Result.{Result}

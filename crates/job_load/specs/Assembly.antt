@@ -2,7 +2,8 @@
 use Rattle.std.specs.Prelude.{◌≡◌, ℕ, ◌+◌, List, [], ◌∷◌, ◌++◌, map, Option, Some, None}
 use Rattle.std.specs.declared.result.Result.{Result}
 use Rattle.std.specs.declared.result.Result.TheVariants.{Ok, Err}
-use Rattle.asm_text.specs.declared.fault.AsmFault.{AsmFault}
+use Rattle.tn_text.specs.declared.stop.Fault.{Fault as At}
+use Rattle.asm_text.specs.declared.fault.AsmKind.{AsmKind}
 use Rattle.asm_build.specs.declared.image.Image.{Image}
 use Rattle.asm_build.specs.Text.{assembled}
 use Rattle.job_text.specs.declared.job.CodeSection.{CodeSection}
@@ -13,17 +14,13 @@ use Rattle.job_load.specs.declared.fault.LoadStop.{LoadStop}
 use Rattle.job_load.specs.declared.fault.LoadStop.TheVariants.{Fault, Memory}
 use Rattle.job_load.specs.Names.{fault_of_asm}
 
--- what reading and assembling make of a text whose first line has this number
-unfoldable pub image_from : ℕ → List ℕ → Result Image AsmFault
-image_from first text = assembled first text
-
 -- a section's text begins on the line after its head
-abbrev pub image_of : TextSection → Result Image AsmFault
-image_of s = image_from (s.line + 1) s.text
+abbrev pub image_of : TextSection → Result Image (At AsmKind)
+image_of s = assembled (s.line + 1) s.text
 
 -- Faults.
 
-abbrev pub fault_by : Result Image AsmFault → Option LoadFault → Option LoadFault
+abbrev pub fault_by : Result Image (At AsmKind) → Option LoadFault → Option LoadFault
 fault_by (Ok image) others = others
 fault_by (Err fault) others = Some (fault_of_asm fault)
 
@@ -34,7 +31,7 @@ asms_fault (s ∷ ss) = fault_by (image_of s) (asms_fault ss)
 
 -- Words.
 
-abbrev pub image_words : Result Image AsmFault → List ℕ
+abbrev pub image_words : Result Image (At AsmKind) → List ℕ
 image_words (Ok image) = image.words
 image_words (Err fault) = []
 

@@ -2,7 +2,7 @@
 use Rattle.std.specs.Prelude.{ℕ, List, codes}
 use Rattle.tn_base.specs.declared.shape.ShapeFault.{ShapeFault}
 use Rattle.tn_base.specs.declared.shape.ShapeFault.TheVariants as number
-use Rattle.asm_text.specs.declared.fault.AsmFault.{AsmFault}
+use Rattle.tn_text.specs.declared.stop.Fault.{Fault}
 use Rattle.asm_text.specs.declared.fault.AsmKind.{AsmKind}
 use Rattle.asm_text.specs.declared.fault.AsmKind.TheVariants as asm
 use Rattle.tn_keys.specs.declared.beat.BeatFault.{BeatFault}
@@ -51,7 +51,7 @@ name_of_asm asm.Twice = fault.Twice
 name_of_asm asm.NoLabel = fault.NoLabel
 name_of_asm asm.TooMany = fault.TooMany
 
-abbrev pub fault_of_asm : AsmFault → LoadFault
+abbrev pub fault_of_asm : Fault AsmKind → LoadFault
 fault_of_asm found = record { line = found.line; kind = name_of_asm found.kind }
 
 -- bytes that are no beat

@@ -1,31 +1,15 @@
 //! The sections of assembly.
 
-ghost use Rattle.std.specs.Prelude.{◌+◌, ◌<◌, ◌^◌, length};
 ghost use Rattle.std.specs.List.{AllByRecursion};
-ghost use Rattle.tn_text.specs.Lines.{lines_of};
-ghost use Rattle.asm_build.specs.Gives.{Gives as AsmGives};
 ghost use Rattle.job_text.specs.Numbered.{IsNumbered};
-ghost use Rattle.job_load.specs.Assembly.{Assembles, AssemblesOne, image_from};
+ghost use Rattle.job_load.specs.Assembly.{Assembles, AssemblesOne};
 
 use crate::fault::{LoadFault, LoadStop};
-use asm_build::assemble::assemble;
-use asm_build::image::Image;
+use asm_build::assemble::assemble_text;
 use asm_text::fault::AsmStop;
-use asm_text::read::read_lines;
-use job_text::items::Items;
 use job_text::job::{CodeSection, TextSection};
 use std::alloc::Global;
-
-/// What a text is in words, whose first line has the number `first`.
-pub fn assemble_text(alloc: Global, text: &[u8], first: u32) -> Result<Image, AsmStop>
-    requires { first + length (lines_of text.now) < 2 ^ 32 }
-    ensures { AsmGives result (image_from first text.now) }
-{
-    match read_lines(alloc, text, first) {
-        Ok(lines) => assemble(alloc, lines.as_slice()),
-        Err(stop) => Err(stop),
-    }
-}
+use tn_text::items::Items;
 
 /// The words of a section, as if it gave them itself.
 fn assemble_section(alloc: Global, section: &TextSection) -> Result<CodeSection, LoadStop>
@@ -33,15 +17,11 @@ fn assemble_section(alloc: Global, section: &TextSection) -> Result<CodeSection,
     ensures { AssemblesOne result section.now }
 {
     match assemble_text(alloc, section.text.as_slice(), section.line + 1) {
-        Ok(image) => {
-            let mut words = Items::new(alloc);
-            words.extend(image.words.as_slice())?;
-            Ok(CodeSection {
-                line: section.line,
-                owner: section.owner,
-                words,
-            })
-        }
+        Ok(image) => Ok(CodeSection {
+            line: section.line,
+            owner: section.owner,
+            words: image.words,
+        }),
         Err(AsmStop::Memory) => Err(LoadStop::Memory),
         Err(AsmStop::Fault(fault)) => Err(LoadStop::Fault(LoadFault::of_asm(fault))),
     }

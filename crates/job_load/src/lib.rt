@@ -4,7 +4,7 @@
 //! `specs/Start.antt`, what sections of assembly give in `specs/Assembly.antt`. Read `load::load` first.
 #![tactic(auto)]
 
-pub mod assembly;
+mod assembly;
 mod code;
 pub mod fault;
 mod image;

@@ -1,20 +1,19 @@
 -- What numbers, words and bytes that were read are.
 use Rattle.std.proofs.Common.{◌≡◌, ℕ, ◌+◌, ◌*◌, ◌^◌, ◌<◌, zero, suc, true, ◌&&◌, eqb, ltb, List, [], ◌∷◌, Option, Some, None, length, take, drop, codes, refl, sym, ap, subst, ⊎_elim, arith}
-use Rattle.std.specs.declared.result.Result.{Result}
-use Rattle.std.specs.declared.result.Result.TheVariants.{Ok, Err}
+use Rattle.std.specs.declared.result.Result.TheVariants.{Ok}
 use Rattle.std.specs.Char.{digit_value}
 use Rattle.std.specs.List.{list_all, AllByRecursion, slice_index}
 use Rattle.std.specs.Str.{bytes_eq}
 use Rattle.std.specs.Str.Parse.{digits_value, AllDigits}
 use Rattle.std.proofs.lemmas.Bool.{cases_Bool, and_parts, ltb-true, eqb-true}
 use Rattle.std.proofs.lemmas.Int.Digits.{digits_value-lt}
+use Rattle.tn_text.specs.NumberLists.{number_before, numbers_in, numbers_of}
 use Rattle.tn_text.specs.declared.numbers.Numeral.{Numeral}
 use Rattle.tn_text.specs.declared.numbers.Numeral.TheVariants.{Value, TooLarge, NoNumber}
 use Rattle.tn_text.specs.Numbers.{number_of, numeral_of, is_numeral, in_32_bits}
 use Rattle.tn_text.specs.Words.{is_some_text}
 use Rattle.tn_text.specs.Hex.{is_hex_digit, hex_byte_of, byte_before, hex_bytes_of, hex_array_of, hex_word_of}
-use Rattle.job_text.specs.declared.job.JobKind.{JobKind}
-use Rattle.job_text.specs.Arguments.{number_before, numbers_of, one_number_of}
+use Rattle.job_text.specs.Arguments.{given}
 use Rattle.job_text.specs.WellFormed.{AreBytes}
 
 -- numbers
@@ -34,24 +33,36 @@ number_fits text n h =
     ⊎_elim (λ e. let k : numeral_of 16 (drop 2 text) ≡ Value n = rw e at h in numeral_fits 16 (drop 2 text) n k)
     (λ e. let k : numeral_of 10 text ≡ Value n = rw e at h in numeral_fits 10 text n k) (cases_Bool (bytes_eq (take 2 text) (codes "0x")))
 
-pub one_fits : (x : Numeral ℕ) (text : List ℕ) (n : ℕ) → number_of text ≡ x → one_number_of x ≡ Ok n → n < 2 ^ 32
+pub one_fits : (x : Numeral ℕ) (text : List ℕ) (n : ℕ) → number_of text ≡ x → given x ≡ Ok n → n < 2 ^ 32
 one_fits (Value m) text n e h = let same : n ≡ m = cc in let small = number_fits text m e in omega arith
 one_fits TooLarge text n e h = cc
 one_fits NoNumber text n e h = cc
 
-before_parts : (x : Numeral ℕ) (more : Result (List ℕ) JobKind) (ns : List ℕ) → number_before x more ≡ Ok ns → (n : ℕ) × (ms : List ℕ) × (x ≡ Value n) × (more ≡ Ok ms) × (ns ≡ n ∷ ms)
+before_parts : (x : Numeral ℕ) (more : Numeral (List ℕ)) (ns : List ℕ) → number_before x more ≡ Value ns → (n : ℕ) × (ms : List ℕ) × (x ≡ Value n) × (more ≡ Value ms) × (ns ≡ n ∷ ms)
 before_parts NoNumber more ns h = cc
-before_parts (Value n) (Ok ms) ns h = (n, ms, refl, refl, cc)
-before_parts (Value n) (Err kind) ns h = cc
-before_parts TooLarge (Ok ms) ns h = cc
-before_parts TooLarge (Err kind) ns h = cc
+before_parts (Value n) (Value ms) ns h = (n, ms, refl, refl, cc)
+before_parts (Value n) TooLarge ns h = cc
+before_parts (Value n) NoNumber ns h = cc
+before_parts TooLarge (Value ms) ns h = cc
+before_parts TooLarge TooLarge ns h = cc
+before_parts TooLarge NoNumber ns h = cc
 
-pub numbers_fit : (ws : List (List ℕ)) (ns : List ℕ) → numbers_of ws ≡ Ok ns → AllByRecursion (λ n. n < 2 ^ 32) ns
+pub numbers_fit : (ws : List (List ℕ)) (ns : List ℕ) → numbers_of ws ≡ Value ns → AllByRecursion (λ n. n < 2 ^ 32) ns
 numbers_fit [] ns h = let e : ns ≡ [] = cc in rw e tt
 numbers_fit (w ∷ ws) ns h =
     let p = before_parts (number_of w) (numbers_of ws) ns h in
     let e = p.4 in
     rw e (number_fits w p.0 p.2, numbers_fit ws p.1 p.3)
+
+pub numbers_in_fit : (n : ℕ) (ws : List (List ℕ)) (ns : List ℕ) → numbers_in n ws ≡ Value ns → AllByRecursion (λ k. k < 2 ^ 32) ns
+numbers_in_fit n ws ns h =
+    ⊎_elim (λ e. let k : numbers_of ws ≡ Value ns = rw e at h in numbers_fit ws ns k)
+    (λ e. let k : NoNumber ≡ Value ns = rw e at h in cc) (cases_Bool (eqb (length ws) n))
+
+pub given_is : {V : Type 0} (x : Numeral V) (v : V) → given x ≡ Ok v → x ≡ Value v
+given_is (Value w) v h = let e : w ≡ v = cc in ap (λ (u : _). Value u) e
+given_is TooLarge v h = cc
+given_is NoNumber v h = cc
 
 pub index_fits : (ns : List ℕ) (k : ℕ) → AllByRecursion (λ n. n < 2 ^ 32) ns → slice_index ns k < 2 ^ 32
 index_fits [] k h = omega arith

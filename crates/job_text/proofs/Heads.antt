@@ -4,17 +4,19 @@ use Rattle.std.specs.declared.result.Result.TheVariants.{Ok}
 use Rattle.std.specs.Fmt.{decimal}
 use Rattle.std.specs.List.{AllByRecursion}
 use Rattle.std.proofs.lemmas.Fmt.{decimal_digit}
+use Rattle.tn_text.specs.declared.numbers.Numeral.TheVariants.{Value}
+use Rattle.tn_text.specs.NumberLists.{numbers_of}
+use Rattle.tn_text.specs.Words.{spaced}
 use Rattle.tn_base.specs.declared.shape.ShapeNumbers.{ShapeNumbers}
 use Rattle.job_text.specs.declared.keyword.Setting.{Setting}
 use Rattle.job_text.specs.declared.keyword.Setting.TheVariants.{Slots, Link, Mem, Fuel, Turn}
 use Rattle.job_text.specs.declared.keyword.Keyword.TheVariants.{Number}
 use Rattle.job_text.specs.declared.draft.Place.TheVariants.{AtShape, AtSettings}
 use Rattle.job_text.specs.declared.draft.Draft.{Draft}
-use Rattle.job_text.specs.Arguments.{numbers_of}
 use Rattle.job_text.specs.Keyword.{keyword_of, setting_in, with_setting}
-use Rattle.job_text.specs.Printed.{spaced, feed, header_text, shape_text, setting_text, settings_text}
+use Rattle.job_text.specs.Printed.{feed, header_text, shape_text, setting_text, settings_text}
 use Rattle.job_text.specs.Text.{start, empty_job, default_numbers, all_at, shape_with, header_line, shape_line, entry_line}
-use Rattle.job_text.proofs.Clean.{IsWord, AreWords, line_of_words, words_of-line}
+use Rattle.tn_text.proofs.Clean.{IsWord, AreWords, line_of_words, words_of-line}
 use Rattle.job_text.proofs.Words.{decimal_word, decimal_value}
 use Rattle.job_text.proofs.Leads.{Leads, leads_then, leads_line, leads_entry, spaced_one}
 
@@ -22,7 +24,7 @@ pub decimal_words : (ns : List ℕ) → AllByRecursion (λ n. n < 2 ^ 32) ns →
 decimal_words [] h = tt
 decimal_words (n ∷ ns) h = (decimal_word n h.0, decimal_words ns h.1)
 
-pub numbers_of-decimals : (ns : List ℕ) → AllByRecursion (λ n. n < 2 ^ 32) ns → numbers_of (map decimal ns) ≡ Ok ns
+pub numbers_of-decimals : (ns : List ℕ) → AllByRecursion (λ n. n < 2 ^ 32) ns → numbers_of (map decimal ns) ≡ Value ns
 numbers_of-decimals [] h = refl
 numbers_of-decimals (n ∷ ns) h = let here = decimal_value n h.0 in let more = numbers_of-decimals ns h.1 in rw (here, more) refl
 

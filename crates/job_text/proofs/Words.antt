@@ -12,7 +12,7 @@ use Rattle.tn_text.specs.Hex.{hex_text}
 use Rattle.tn_text.specs.Numbers.{number_of}
 use Rattle.tn_text.specs.declared.numbers.Numeral.TheVariants.{Value}
 use Rattle.tn_text.proofs.Printed.{decimal_read_back}
-use Rattle.job_text.proofs.Clean.{clean, IsWord}
+use Rattle.tn_text.proofs.Clean.{clean, IsWord}
 
 digit_clean : (b : ℕ) → digit_value b < 10 → clean b ≡ true
 digit_clean b h = grind (arith, nat_tests)

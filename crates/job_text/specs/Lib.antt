@@ -1,8 +1,10 @@
-pub mod Seen
+pub mod Sections
+pub mod Named
 pub mod Arguments
 pub mod Keyword
+pub mod SectionLines
 pub mod Text
-pub mod Gives
+pub mod Contents
 pub mod Numbered
 pub mod Printed
 pub mod WellFormed

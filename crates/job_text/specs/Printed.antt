@@ -2,6 +2,7 @@
 use Rattle.std.specs.Prelude.{ℕ, List, [], ◌∷◌, ◌++◌, codes, decimal, flat_map, Option, Some, None}
 use Rattle.tn_base.specs.declared.shape.ShapeNumbers.{ShapeNumbers}
 use Rattle.tn_text.specs.Hex.{hex_text, hex_word_text}
+use Rattle.tn_text.specs.Words.{spaced}
 use Rattle.job_text.specs.declared.job.Owner.{Owner}
 use Rattle.job_text.specs.declared.job.Owner.TheVariants.{All, Tile}
 use Rattle.job_text.specs.declared.job.CodeSection.{CodeSection}
@@ -13,10 +14,6 @@ use Rattle.job_text.specs.declared.job.ScriptText.{ScriptText}
 use Rattle.job_text.specs.declared.job.ScriptText.TheVariants.{Send, Idle}
 use Rattle.job_text.specs.declared.job.ScriptLine.{ScriptLine}
 use Rattle.job_text.specs.declared.job.Job.{Job}
-
--- a word behind another
-abbrev pub spaced : List ℕ → List ℕ
-spaced word = 32 ∷ word
 
 abbrev pub feed : List ℕ
 feed = 10 ∷ []

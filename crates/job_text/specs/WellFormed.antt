@@ -1,10 +1,12 @@
 -- The jobs that texts say, and jobs that differ in nothing but the numbers of lines.
-use Rattle.std.specs.Prelude.{◌≡◌, ◌⊎◌, ℕ, ◌^◌, ◌<◌, ◌≤◌, if◌then◌else◌, slice_index, bytes_eq, is_some, option_and_then, Bool, true, false, List, [], ◌∷◌, ◌++◌, map, length, codes, Option, Some, None, option_map, flat_map}
+use Rattle.std.specs.Prelude.{◌≡◌, ◌⊎◌, ℕ, ◌^◌, ◌<◌, ◌≤◌, slice_index, bytes_eq, is_some, true, false, List, ◌∷◌, ◌++◌, map, length, codes, option_map, flat_map}
 use Rattle.std.specs.List.{AllByRecursion, list_any}
 use Rattle.std.specs.declared.result.Result.TheVariants.{Ok}
 use Rattle.tn_base.specs.declared.shape.ShapeNumbers.{ShapeNumbers}
 use Rattle.tn_text.specs.Lines.{lines_of, is_feed}
 use Rattle.tn_text.specs.Content.{content_of, is_plain}
+use Rattle.tn_text.specs.declared.numbers.Numeral.TheVariants.{Value}
+use Rattle.tn_text.specs.NumberLists.{numbers_in}
 use Rattle.tn_text.specs.Words.{words_of}
 use Rattle.job_text.specs.declared.job.Owner.{Owner}
 use Rattle.job_text.specs.declared.job.Owner.TheVariants.{All, Tile}
@@ -17,31 +19,12 @@ use Rattle.job_text.specs.declared.job.ScriptText.{ScriptText}
 use Rattle.job_text.specs.declared.job.ScriptText.TheVariants.{Send, Idle}
 use Rattle.job_text.specs.declared.job.ScriptLine.{ScriptLine}
 use Rattle.job_text.specs.declared.job.Job.{Job}
-use Rattle.job_text.specs.Arguments.{exactly}
-use Rattle.job_text.specs.Seen.{has, with_number}
+use Rattle.job_text.specs.declared.job.Section.{Section}
+use Rattle.job_text.specs.declared.job.Section.TheVariants.{Code, Asm, Fill, Table, Script, Graph}
+use Rattle.job_text.specs.Named.{named_by, nothing_named}
 use Rattle.job_text.specs.Printed.{feed, text_of}
-use Rattle.job_text.specs.Text.{all_at, job_of, board_number}
-
--- Nothing is named twice.
-
--- each of these may be named behind the others, and what is named then
-abbrev pub named_by : {T S : Type 0} → (S → T → Option S) → S → List T → Option S
-named_by allowed s [] = Some s
-named_by allowed s (x ∷ xs) = option_and_then (λ t. named_by allowed t xs) (allowed s x)
-
--- whether `all` has its code, and the tiles that have theirs
-abbrev pub owner_allowed : Bool × List ℕ → Owner → Option (Bool × List ℕ)
-owner_allowed s All = if s.0 then None else Some (true, s.1)
-owner_allowed s (Tile tile) = if has tile s.1 then None else Some (s.0, with_number tile s.1)
-
-abbrev pub code_allowed : Bool × List ℕ → CodeSection → Option (Bool × List ℕ)
-code_allowed s section = owner_allowed s section.owner
-
-abbrev pub asm_allowed : Bool × List ℕ → TextSection → Option (Bool × List ℕ)
-asm_allowed s section = owner_allowed s section.owner
-
-abbrev pub table_allowed : List ℕ → TableSection → Option (List ℕ)
-table_allowed s table = if has (board_number table.x table.y) s then None else Some (with_number (board_number table.x table.y) s)
+use Rattle.job_text.specs.Sections.{job_sections}
+use Rattle.job_text.specs.Text.{all_at, job_of}
 
 -- What one section may be.
 
@@ -106,12 +89,19 @@ pub record IsGraphText (s : TextSection) (head rest : List ℕ) (words : List (L
   pub text : s.text ≡ head ++ feed ++ rest
   pub line : IsTextLine head
   pub words_are : words_of head ≡ codes "graph" ∷ words
-  pub numbers : exactly 2 words ≡ Ok ns
+  pub numbers : numbers_in 2 words ≡ Value ns
   pub lines : IsText rest
 
-abbrev pub IsGraph : Option TextSection → Type 0
-IsGraph None = Unit {0}
-IsGraph (Some s) = (head rest : List ℕ) × (words : List (List ℕ)) × (ns : List ℕ) × IsGraphText s head rest words ns
+abbrev pub IsGraph : TextSection → Type 0
+IsGraph s = (head rest : List ℕ) × (words : List (List ℕ)) × (ns : List ℕ) × IsGraphText s head rest words ns
+
+abbrev pub IsSection : Section → Type 0
+IsSection (Code s) = IsCode s
+IsSection (Asm s) = IsAsm s
+IsSection (Fill f) = IsFill f
+IsSection (Table t) = IsTable t
+IsSection (Script l) = IsScript l
+IsSection (Graph s) = IsGraph s
 
 pub record AreNumbers (n : ShapeNumbers) : Type 0 where
   pub boards_x : n.boards_x < 2 ^ 32
@@ -131,14 +121,9 @@ pub record IsWellFormed (job : Job) : Type 0 where
   pub version : (job.version ≡ 1) ⊎ (job.version ≡ 2)
   pub same_version : job.numbers.version ≡ job.version
   pub numbers : AreNumbers job.numbers
-  pub codes_are : AllByRecursion IsCode job.codes
-  pub asms_are : AllByRecursion IsAsm job.asms
-  pub owners_once : is_some (option_and_then (λ s. named_by asm_allowed s job.asms) (named_by code_allowed (false, []) job.codes)) ≡ true
-  pub fills_are : AllByRecursion IsFill job.fills
-  pub tables_are : AllByRecursion IsTable job.tables
-  pub tables_once : is_some (named_by table_allowed [] job.tables) ≡ true
-  pub script_is : AllByRecursion IsScript job.script
-  pub graph_is : IsGraph job.graph
+  pub sections : AllByRecursion IsSection (job_sections job)
+  -- no two of them have the same subject
+  pub once : is_some (named_by nothing_named (job_sections job)) ≡ true
 
 -- A job with every line number zero.
 

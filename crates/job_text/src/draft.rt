@@ -1,97 +1,42 @@
 //! A job that is being read, line by line.
 
 ghost use Rattle.std.specs.Prelude.{◌≡◌, ◌-◌, ◌<◌, ◌^◌};
-ghost use Rattle.job_text.specs.declared.job.JobStop.TheVariants as JobStop;
-ghost use Rattle.tn_text.specs.Hex.{hex_array_of, hex_bytes_of};
-ghost use Rattle.tn_text.specs.Words.{words_of};
-ghost use Rattle.job_text.specs.Arguments.{two_of, three_of};
-ghost use Rattle.job_text.specs.Text.{all_at as all_lines_at, default_numbers as numbers_by_default, start, version_by, header_line, shape_line, setting_line as setting_line_of, owner_named, code_head, asm_head, table_head, graph_head, fill_by, fill_bytes as fill_bytes_of, send_by, send_bytes as send_bytes_of, scripted, text_added, host_line, entry_line, word_line, beat_added, beat_line, asm_line, graph_line, foreign_byte, content_line, step, ended};
-ghost use Rattle.job_text.specs.Gives.{Takes, Gives, GivesValue};
+ghost use Rattle.tn_text.specs.Gives.{Gives};
+ghost use Rattle.tn_text.specs.Words.{two_of, words_of};
+ghost use Rattle.job_text.specs.Text.{all_at as all_lines_at, bare, begun, closed as closed_draft, default_numbers as numbers_by_default, ended, entry_line, foreign_byte, header_line, inside_line, setting_line, shape_line, start, step, takes_settings as takes_settings_of, version_by};
 
-use crate::arguments::{
-    find_owner, number_alone, numbers, one_number, one_word, three_words, two_numbers, two_words,
-};
-use crate::items::Items;
-use crate::job::{
-    BeatLine, CodeSection, FillLine, Job, JobFault, JobKind, JobStop, Owner, ScriptLine,
-    ScriptText, TableSection, TextSection,
-};
+use crate::arguments::number_alone;
+use crate::job::{Job, JobKind, JobStop, LineStop, Section};
 use crate::keyword::{Keyword, Setting, find_keyword, setting_of, with_setting};
-use crate::seen::NumberSet;
-use std::alloc::{AllocError, Global};
-use std::mem;
+use crate::named::Named;
+use crate::section::{begin_section, is_whole, with_line};
+use std::alloc::Global;
 use tn_base::shape::ShapeNumbers;
 use tn_text::content::{content, is_plain};
-use tn_text::hex::{hex_array, hex_bytes, hex_word};
-use tn_text::words::first_word;
+use tn_text::items::Items;
+use tn_text::number_lists::numbers;
+use tn_text::numbers::Numeral;
+use tn_text::stop::Stop;
+use tn_text::words::{first_word, two_words};
 
-/// The most words of a `code` section.
-const WORDS: usize = 16_384;
-
-/// The most beats of a `table` section.
-const BEATS: usize = 65_536;
-
-/// The most bytes of a `fill` line.
-const FILL_BYTES: usize = 4_096;
-
-/// Why a line is not taken.
-#[derive(Clone, Copy, PartialEq, Eq, Debug)]
-pub(crate) enum LineStop {
-    Kind(JobKind),
-    Memory,
-}
-
-impl From<AllocError> for LineStop {
-    ghost use Rattle.std.specs.Prelude.{◌≡◌};
-    ghost use Rattle.job_text.specs.declared.draft.LineStop.TheVariants.{Memory};
-
-    ghost from_gives = { λ _ e. e ≡ Memory };
-
-    fn from(_: AllocError) -> LineStop {
-        LineStop::Memory
-    }
-}
-
-impl From<JobKind> for LineStop {
-    ghost use Rattle.std.specs.Prelude.{◌≡◌};
-    ghost use Rattle.job_text.specs.declared.draft.LineStop.TheVariants.{Kind};
-
-    ghost from_gives = { λ kind e. e ≡ Kind kind };
-
-    fn from(kind: JobKind) -> LineStop {
-        LineStop::Kind(kind)
-    }
-}
-
-/// Where the next line stands. A section has the number of its first line.
-#[derive(Clone, Copy, PartialEq, Eq, Debug)]
+/// What the next line belongs to.
+#[derive(Drop)]
 pub(crate) enum Place {
     AtHeader,
-    /// Behind the header, where this line is the next.
+    /// After the header. This line is the next.
     AtShape(u32),
     AtSettings,
     AtSections,
-    InCode(u32, Owner),
-    InAsm(u32, Owner),
-    /// In the table of the board at this place.
-    InTable(u32, u32, u32),
-    InGraph(u32),
+    /// A section, of which the lines so far are read.
+    Inside(Section),
 }
 
-/// A job that is being read, and the parts of the section that is open.
+/// A job that is being read. Only whole sections are in the job.
 #[derive(Drop)]
 pub(crate) struct Draft {
     place: Place,
     job: Job,
-    words: Items<u32>,
-    beats: Items<BeatLine>,
-    text: Items<u8>,
-    /// `all` has its code.
-    all_named: bool,
-    /// The tiles that have their code.
-    tiles: NumberSet,
-    /// The boards that have their table.
-    boards: NumberSet,
+    named: Named,
 }
 
 fn version(line: &[u8]) -> Option<u32>
@@ -148,9 +93,9 @@ fn default_numbers() -> ShapeNumbers
     }
 }
 
-/// The kind of fault that a byte is, which may not stand.
-fn foreign(place: Place) -> JobKind
-    ensures { result ≡ foreign_byte place }
+/// The kind of fault of a byte that is not allowed.
+fn foreign(place: &Place) -> JobKind
+    ensures { result ≡ foreign_byte place.now }
 {
     match place {
         Place::AtHeader => JobKind::Header,
@@ -159,33 +104,63 @@ fn foreign(place: Place) -> JobKind
     }
 }
 
-/// The bytes of a `fill` line.
-fn fill_bytes(alloc: Global, digits: &[u8]) -> Result<Items<u8>, LineStop>
-    ensures { GivesValue result (fill_bytes_of (hex_bytes_of digits.now)) }
+/// Settings come after the shape and before every section.
+fn takes_settings(place: &Place) -> bool
+    ensures { result ≡ takes_settings_of place.now }
 {
-    let Some(bytes) = hex_bytes(alloc, digits)? else {
-        return Err(LineStop::Kind(JobKind::BadLine));
-    };
-    if bytes.len() > FILL_BYTES {
-        return Err(LineStop::Kind(JobKind::BadLine));
-    }
-    Ok(Items::from(bytes))
+    matches!(place, Place::AtSettings)
 }
 
-/// The bytes of a `host send` line.
-fn send_bytes(alloc: Global, digits: &[u8]) -> Result<Items<u8>, LineStop>
-    ensures { GivesValue result (send_bytes_of (hex_bytes_of digits.now)) }
+/// A section is read to its end.
+fn closed(job: Job, named: Named, section: Section) -> Result<Draft, LineStop>
+    ensures { Gives result (Ok (closed_draft job named section)) }
 {
-    match hex_bytes(alloc, digits)? {
-        Some(bytes) => Ok(Items::from(bytes)),
-        None => Err(LineStop::Kind(JobKind::BadLine)),
-    }
+    let mut longer = job;
+    longer.add(section)?;
+    Ok(Draft {
+        place: Place::AtSections,
+        job: longer,
+        named,
+    })
 }
 
-fn fault(line: u32, kind: JobKind) -> JobStop
-    ensures { result ≡ JobStop.Fault (record { line = line; kind = kind }) }
+/// A section begins.
+fn begin(job: Job, named: Named, section: Section) -> Result<Draft, LineStop>
+    ensures { Gives result (begun job named section) }
 {
-    JobStop::Fault(JobFault { line, kind })
+    let mut names = named;
+    if !names.add_section(&section)? {
+        return Err(Stop::Fault(JobKind::Twice));
+    }
+    if is_whole(&section) {
+        return closed(job, names, section);
+    }
+    Ok(Draft {
+        place: Place::Inside(section),
+        job,
+        named: names,
+    })
+}
+
+/// A line inside a section.
+fn inside_line(
+    job: Job,
+    named: Named,
+    section: Section,
+    number: u32,
+    line: &[u8],
+) -> Result<Draft, LineStop>
+    ensures { Gives result (inside_line job named section number line.now) }
+{
+    if line == b"end".as_slice() {
+        return closed(job, named, section);
+    }
+    let section = with_line(section, number, line)?;
+    Ok(Draft {
+        place: Place::Inside(section),
+        job,
+        named,
+    })
 }
 
 impl Draft {
@@ -206,382 +181,120 @@ impl Draft {
         Draft {
             place: Place::AtHeader,
             job,
-            words: Items::new(alloc),
-            beats: Items::new(alloc),
-            text: Items::new(alloc),
-            all_named: false,
-            tiles: NumberSet::new(alloc),
-            boards: NumberSet::new(alloc),
+            named: Named::new(alloc),
         }
     }
 
-    fn header_line(&mut self, number: u32, line: &[u8]) -> Result<(), LineStop>
+    fn header_line(self, number: u32, line: &[u8]) -> Result<Draft, LineStop>
         requires { number < 2 ^ 32 - 1 }
-        ensures { Takes result self.new (header_line self.old number (words_of line.now)) }
+        ensures { Gives result (header_line self number (words_of line.now)) }
     {
         if first_word(line).is_none() {
-            return Ok(());
+            return Ok(self);
         }
         let Some(version) = version(line) else {
-            return Err(LineStop::Kind(JobKind::Header));
+            return Err(Stop::Fault(JobKind::Header));
         };
-        self.place = Place::AtShape(number + 1);
-        self.job.version = version;
-        self.job.numbers.version = version;
-        Ok(())
+        let mut headed = self;
+        headed.place = Place::AtShape(number + 1);
+        headed.job.version = version;
+        headed.job.numbers.version = version;
+        Ok(headed)
     }
 
-    fn shape_line(&mut self, number: u32, line: &[u8]) -> Result<(), LineStop>
-        ensures { Takes result self.new (shape_line self.old number (words_of line.now)) }
+    fn shape_line(self, number: u32, line: &[u8]) -> Result<Draft, LineStop>
+        ensures { Gives result (shape_line self number (words_of line.now)) }
     {
         let Some((name, rest)) = first_word(line) else {
-            return Ok(());
+            return Ok(self);
         };
         if name != b"shape".as_slice() {
-            return Err(LineStop::Kind(JobKind::NoShape));
+            return Err(Stop::Fault(JobKind::NoShape));
         }
         let [boards_x, boards_y, tiles_x, tiles_y, cores, threads] = match numbers::<6>(rest) {
-            Ok(numbers) => numbers,
-            Err(JobKind::BadNumber) => return Err(LineStop::Kind(JobKind::BadNumber)),
-            Err(_) => return Err(LineStop::Kind(JobKind::NoShape)),
+            Numeral::Value(numbers) => numbers,
+            Numeral::TooLarge => return Err(Stop::Fault(JobKind::BadNumber)),
+            Numeral::NoNumber => return Err(Stop::Fault(JobKind::NoShape)),
         };
-        self.place = Place::AtSettings;
-        self.job.numbers.boards_x = boards_x;
-        self.job.numbers.boards_y = boards_y;
-        self.job.numbers.tiles_x = tiles_x;
-        self.job.numbers.tiles_y = tiles_y;
-        self.job.numbers.cores = cores;
-        self.job.numbers.threads = threads;
-        self.job.number_lines = all_at(number);
-        Ok(())
+        let mut shaped = self;
+        shaped.place = Place::AtSettings;
+        shaped.job.numbers.boards_x = boards_x;
+        shaped.job.numbers.boards_y = boards_y;
+        shaped.job.numbers.tiles_x = tiles_x;
+        shaped.job.numbers.tiles_y = tiles_y;
+        shaped.job.numbers.cores = cores;
+        shaped.job.numbers.threads = threads;
+        shaped.job.number_lines = all_at(number);
+        Ok(shaped)
     }
 
-    fn setting_line(&mut self, number: u32, setting: Setting, rest: &[u8]) -> Result<(), LineStop>
-        ensures { Takes result self.new (setting_line_of self.old.place self.old number setting (words_of rest.now)) }
+    fn setting_line(self, number: u32, setting: Setting, rest: &[u8]) -> Result<Draft, LineStop>
+        ensures { Gives result (setting_line self number setting (words_of rest.now)) }
     {
-        if self.place != Place::AtSettings {
-            return Err(LineStop::Kind(JobKind::BadLine));
+        if !takes_settings(&self.place) {
+            return Err(Stop::Fault(JobKind::BadLine));
         }
         let value = number_alone(rest)?;
         if setting_of(setting, &self.job.number_lines) != self.job.number_lines.version {
-            return Err(LineStop::Kind(JobKind::Twice));
+            return Err(Stop::Fault(JobKind::Twice));
         }
-        self.job.numbers = with_setting(setting, value, self.job.numbers);
-        self.job.number_lines = with_setting(setting, number, self.job.number_lines);
-        Ok(())
+        let mut set = self;
+        set.job.numbers = with_setting(setting, value, set.job.numbers);
+        set.job.number_lines = with_setting(setting, number, set.job.number_lines);
+        Ok(set)
     }
 
-    fn name_owner(&mut self, owner: Owner) -> Result<(), LineStop>
-        ensures { Takes result self.new (owner_named self.old owner) }
-    {
-        match owner {
-            Owner::All => {
-                if self.all_named {
-                    return Err(LineStop::Kind(JobKind::Twice));
-                }
-                self.all_named = true;
-                Ok(())
-            }
-            Owner::Tile(tile) => {
-                if self.tiles.add(u64::from(tile))? {
-                    return Ok(());
-                }
-                Err(LineStop::Kind(JobKind::Twice))
-            }
-        }
-    }
-
-    fn code_head(&mut self, number: u32, rest: &[u8]) -> Result<(), LineStop>
-        ensures { Takes result self.new (code_head self.old number (words_of rest.now)) }
-    {
-        let owner = find_owner(rest)?;
-        self.name_owner(owner)?;
-        self.place = Place::InCode(number, owner);
-        Ok(())
-    }
-
-    fn asm_head(&mut self, number: u32, rest: &[u8]) -> Result<(), LineStop>
-        ensures { Takes result self.new (asm_head self.old number (words_of rest.now)) }
-    {
-        let owner = find_owner(rest)?;
-        self.name_owner(owner)?;
-        self.place = Place::InAsm(number, owner);
-        Ok(())
-    }
-
-    fn table_head(&mut self, number: u32, rest: &[u8]) -> Result<(), LineStop>
-        ensures { Takes result self.new (table_head self.old number (words_of rest.now)) }
-    {
-        let [x, y] = numbers::<2>(rest)?;
-        if !self
-            .boards
-            .add(u64::from(x) * 0x1_0000_0000 + u64::from(y))?
-        {
-            return Err(LineStop::Kind(JobKind::Twice));
-        }
-        self.place = Place::InTable(number, x, y);
-        Ok(())
-    }
-
-    fn graph_head(
-        &mut self,
-        alloc: Global,
-        number: u32,
-        line: &[u8],
-        rest: &[u8],
-    ) -> Result<(), LineStop>
-        ensures { Takes result self.new (graph_head self.old number line.now (words_of rest.now)) }
-    {
-        let [_, _] = numbers::<2>(rest)?;
-        if self.job.graph.is_some() {
-            return Err(LineStop::Kind(JobKind::Twice));
-        }
-        let mut text = Items::new(alloc);
-        text.extend(line)?;
-        text.push(b'\n')?;
-        self.text = text;
-        self.place = Place::InGraph(number);
-        Ok(())
-    }
-
-    fn fill_line(&mut self, alloc: Global, number: u32, rest: &[u8]) -> Result<(), LineStop>
-        ensures { Takes result self.new (fill_by self.old number (three_of (words_of rest.now))) }
-    {
-        let Some((thread, address, digits)) = three_words(rest) else {
-            return Err(LineStop::Kind(JobKind::BadLine));
-        };
-        let bytes = fill_bytes(alloc, digits)?;
-        let (thread, address) = two_numbers(thread, address)?;
-        self.job.fills.push(FillLine {
-            line: number,
-            thread,
-            address,
-            bytes,
-        })?;
-        self.place = Place::AtSections;
-        Ok(())
-    }
-
-    fn push_script(&mut self, number: u32, item: ScriptText) -> Result<(), LineStop>
-        ensures { Takes result self.new (Ok (scripted self.old number item)) }
-    {
-        self.job.script.push(ScriptLine { line: number, item })?;
-        self.place = Place::AtSections;
-        Ok(())
-    }
-
-    fn send_line(&mut self, alloc: Global, number: u32, rest: &[u8]) -> Result<(), LineStop>
-        ensures { Takes result self.new (send_by self.old number (two_of (words_of rest.now))) }
-    {
-        let Some((thread, digits)) = two_words(rest) else {
-            return Err(LineStop::Kind(JobKind::BadLine));
-        };
-        let bytes = send_bytes(alloc, digits)?;
-        let thread = one_number(thread)?;
-        self.push_script(number, ScriptText::Send(thread, bytes))
-    }
-
-    fn host_line(&mut self, alloc: Global, number: u32, rest: &[u8]) -> Result<(), LineStop>
-        ensures { Takes result self.new (host_line self.old number (words_of rest.now)) }
-    {
-        let Some((name, rest)) = first_word(rest) else {
-            return Err(LineStop::Kind(JobKind::BadLine));
-        };
-        if name == b"idle".as_slice() {
-            if first_word(rest).is_some() {
-                return Err(LineStop::Kind(JobKind::BadLine));
-            }
-            return self.push_script(number, ScriptText::Idle);
-        }
-        if name == b"send".as_slice() {
-            return self.send_line(alloc, number, rest);
-        }
-        Err(LineStop::Kind(JobKind::BadLine))
-    }
-
-    /// A line behind the shape and outside sections.
-    fn entry_line(&mut self, alloc: Global, number: u32, line: &[u8]) -> Result<(), LineStop>
-        ensures { Takes result self.new (entry_line self.old number line.now (words_of line.now)) }
+    /// A line after the shape and outside sections.
+    fn entry_line(self, alloc: Global, number: u32, line: &[u8]) -> Result<Draft, LineStop>
+        ensures { Gives result (entry_line self number line.now (words_of line.now)) }
     {
         let Some((name, rest)) = first_word(line) else {
-            return Ok(());
+            return Ok(self);
         };
         match find_keyword(name) {
-            None => Err(LineStop::Kind(JobKind::BadLine)),
+            None => Err(Stop::Fault(JobKind::BadLine)),
             Some(Keyword::Number(setting)) => self.setting_line(number, setting, rest),
-            Some(Keyword::Code) => self.code_head(number, rest),
-            Some(Keyword::Asm) => self.asm_head(number, rest),
-            Some(Keyword::Fill) => self.fill_line(alloc, number, rest),
-            Some(Keyword::Table) => self.table_head(number, rest),
-            Some(Keyword::Host) => self.host_line(alloc, number, rest),
-            Some(Keyword::Graph) => self.graph_head(alloc, number, line, rest),
+            Some(keyword) => {
+                let section = begin_section(alloc, number, line, keyword, rest)?;
+                begin(self.job, self.named, section)
+            }
         }
     }
 
-    fn word_line(
-        &mut self,
-        alloc: Global,
-        head: u32,
-        owner: Owner,
-        line: &[u8],
-    ) -> Result<(), LineStop>
-        ensures { Takes result self.new (word_line self.old head owner (words_of line.now)) }
-    {
-        if first_word(line).is_none() {
-            return Ok(());
-        }
-        let Some(word) = one_word(line) else {
-            return Err(LineStop::Kind(JobKind::BadWord));
-        };
-        if word == b"end".as_slice() {
-            let words = mem::replace(&mut self.words, Items::new(alloc));
-            self.job.codes.push(CodeSection {
-                line: head,
-                owner,
-                words,
-            })?;
-            self.place = Place::AtSections;
-            return Ok(());
-        }
-        let Some(word) = hex_word(word) else {
-            return Err(LineStop::Kind(JobKind::BadWord));
-        };
-        if self.words.len() >= WORDS {
-            return Err(LineStop::Kind(JobKind::TooMany));
-        }
-        self.words.push(word)?;
-        Ok(())
-    }
-
-    fn push_beat(&mut self, number: u32, word: &[u8]) -> Result<(), LineStop>
-        ensures { Takes result self.new (beat_added self.old number (hex_array_of 32 word.now)) }
-    {
-        let Some(bytes) = hex_array::<32>(word) else {
-            return Err(LineStop::Kind(JobKind::BadWord));
-        };
-        if self.beats.len() >= BEATS {
-            return Err(LineStop::Kind(JobKind::TooMany));
-        }
-        self.beats.push(BeatLine {
-            line: number,
-            bytes,
-        })?;
-        Ok(())
-    }
-
-    fn beat_line(
-        &mut self,
-        alloc: Global,
-        number: u32,
-        head: u32,
-        x: u32,
-        y: u32,
-        line: &[u8],
-    ) -> Result<(), LineStop>
-        ensures { Takes result self.new (beat_line self.old number head x y (words_of line.now)) }
-    {
-        if first_word(line).is_none() {
-            return Ok(());
-        }
-        let Some(word) = one_word(line) else {
-            return Err(LineStop::Kind(JobKind::BadWord));
-        };
-        if word == b"end".as_slice() {
-            let beats = mem::replace(&mut self.beats, Items::new(alloc));
-            self.job.tables.push(TableSection {
-                line: head,
-                x,
-                y,
-                beats,
-            })?;
-            self.place = Place::AtSections;
-            return Ok(());
-        }
-        self.push_beat(number, word)
-    }
-
-    fn push_text(&mut self, line: &[u8]) -> Result<(), LineStop>
-        ensures { Takes result self.new (Ok (text_added self.old line.now)) }
-    {
-        self.text.extend(line)?;
-        self.text.push(b'\n')?;
-        Ok(())
-    }
-
-    fn asm_line(
-        &mut self,
-        alloc: Global,
-        head: u32,
-        owner: Owner,
-        line: &[u8],
-    ) -> Result<(), LineStop>
-        ensures { Takes result self.new (asm_line self.old head owner line.now) }
-    {
-        if line != b"end".as_slice() {
-            return self.push_text(line);
-        }
-        let text = mem::replace(&mut self.text, Items::new(alloc));
-        self.job.asms.push(TextSection {
-            line: head,
-            owner,
-            text,
-        })?;
-        self.place = Place::AtSections;
-        Ok(())
-    }
-
-    fn graph_line(&mut self, alloc: Global, head: u32, line: &[u8]) -> Result<(), LineStop>
-        ensures { Takes result self.new (graph_line self.old head line.now) }
-    {
-        if line != b"end".as_slice() {
-            return self.push_text(line);
-        }
-        let text = mem::replace(&mut self.text, Items::new(alloc));
-        self.job.graph = Some(TextSection {
-            line: head,
-            owner: Owner::All,
-            text,
-        });
-        self.place = Place::AtSections;
-        Ok(())
-    }
-
-    /// Takes the next line, whose number is given. Behind an error the draft is of no use.
+    /// Takes the next line, whose number is given.
     pub(crate) fn take_line(
-        &mut self,
+        self,
         alloc: Global,
         number: u32,
         line: &[u8],
-    ) -> Result<(), LineStop>
+    ) -> Result<Draft, LineStop>
         requires { number < 2 ^ 32 - 1 }
-        ensures { Takes result self.new (step self.old number line.now) }
+        ensures { Gives result (step number (bare line.now) self) }
     {
         if !is_plain(line) {
-            return Err(LineStop::Kind(foreign(self.place)));
+            return Err(Stop::Fault(foreign(&self.place)));
         }
         let line = content(line);
-        match self.place {
-            Place::AtHeader => self.header_line(number, line),
-            Place::AtShape(_) => self.shape_line(number, line),
-            Place::AtSettings => self.entry_line(alloc, number, line),
-            Place::AtSections => self.entry_line(alloc, number, line),
-            Place::InCode(head, owner) => self.word_line(alloc, head, owner, line),
-            Place::InTable(head, x, y) => self.beat_line(alloc, number, head, x, y, line),
-            Place::InAsm(head, owner) => self.asm_line(alloc, head, owner, line),
-            Place::InGraph(head) => self.graph_line(alloc, head, line),
+        let Draft { place, job, named } = self;
+        match place {
+            Place::AtHeader => Draft { place, job, named }.header_line(number, line),
+            Place::AtShape(_) => Draft { place, job, named }.shape_line(number, line),
+            Place::AtSettings => Draft { place, job, named }.entry_line(alloc, number, line),
+            Place::AtSections => Draft { place, job, named }.entry_line(alloc, number, line),
+            Place::Inside(section) => inside_line(job, named, section, number, line),
         }
     }
 
-    /// The job, at the text's end behind so many lines.
+    /// The job, at the end of a text of so many lines.
     pub(crate) fn finish(self, lines: u32) -> Result<Job, JobStop>
         ensures { Gives result (ended self.place self lines) }
     {
         match self.place {
-            Place::AtHeader => Err(fault(1, JobKind::Header)),
-            Place::AtShape(line) => Err(fault(line, JobKind::NoShape)),
+            Place::AtHeader => Err(Stop::Fault(JobKind::Header).at(1)),
+            Place::AtShape(line) => Err(Stop::Fault(JobKind::NoShape).at(line)),
             Place::AtSettings => Ok(self.job),
             Place::AtSections => Ok(self.job),
-            _ => Err(fault(lines, JobKind::NoEnd)),
+            Place::Inside(_) => Err(Stop::Fault(JobKind::NoEnd).at(lines)),
         }
     }
 }

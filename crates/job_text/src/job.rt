@@ -1,7 +1,12 @@
 //! A job, as its text says it.
 
-use crate::items::Items;
+ghost use Rattle.std.specs.Prelude.{◌≡◌, IfOk};
+ghost use Rattle.job_text.specs.Sections.{with_section};
+
+use std::alloc::AllocError;
 use tn_base::shape::ShapeNumbers;
+use tn_text::items::Items;
+use tn_text::stop::{Fault, Stop};
 
 /// Whose code a section gives.
 #[derive(Clone, Copy, PartialEq, Eq, Debug)]
@@ -20,7 +25,7 @@ pub struct CodeSection {
     pub words: Items<u32>,
 }
 
-/// An `asm` section or the graph. Its lines stand without comments and outer spaces, each with a line feed.
+/// An `asm` section or the graph. Its lines are kept without comments and outer spaces, each with a line feed.
 #[derive(Drop)]
 pub struct TextSection {
     pub line: u32,
@@ -69,6 +74,18 @@ pub struct ScriptLine {
     pub item: ScriptText,
 }
 
+/// A section: what a text says from a head to its `end`, or on one line.
+#[derive(Drop)]
+pub enum Section {
+    Code(CodeSection),
+    Asm(TextSection),
+    Fill(FillLine),
+    Table(TableSection),
+    Script(ScriptLine),
+    /// Its text begins with the `graph` line.
+    Graph(TextSection),
+}
+
 /// A job: the numbers of its machine and its sections, each list in order of lines.
 #[derive(Drop)]
 pub struct Job {
@@ -86,6 +103,25 @@ pub struct Job {
     pub graph: Option<TextSection>,
 }
 
+impl Job {
+    /// Adds a section after the sections of its kind.
+    pub(crate) fn add(&mut self, section: Section) -> Result<(), AllocError>
+        ensures { IfOk result (λ _. self.new ≡ with_section self.old section) }
+    {
+        match section {
+            Section::Code(code) => self.codes.push(code),
+            Section::Asm(asm) => self.asms.push(asm),
+            Section::Fill(fill) => self.fills.push(fill),
+            Section::Table(table) => self.tables.push(table),
+            Section::Script(line) => self.script.push(line),
+            Section::Graph(graph) => {
+                self.graph = Some(graph);
+                Ok(())
+            }
+        }
+    }
+}
+
 /// Why a text is no job. Of several kinds that a line has, the first counts.
 #[derive(Clone, Copy, PartialEq, Eq, Debug)]
 pub enum JobKind {
@@ -93,11 +129,11 @@ pub enum JobKind {
     Header,
     /// The second line is not that of the shape, or there is none.
     NoShape,
-    /// A line of no form, a setting after a section, or a byte that may not stand.
+    /// A line of no form, a setting after a section, or a byte that is not allowed.
     BadLine,
     /// A number of more than 32 bits.
     BadNumber,
-    /// What stands once at most stands again.
+    /// A setting, a tile's code, the code of `all`, a board's table or the graph again.
     Twice,
     /// A section without its `end`. The line is the last one.
     NoEnd,
@@ -107,16 +143,22 @@ pub enum JobKind {
     TooMany,
 }
 
-/// The first line at fault, counted from 1.
-#[derive(Clone, Copy, PartialEq, Eq, Debug)]
-pub struct JobFault {
-    pub line: u32,
-    pub kind: JobKind,
-}
+/// The first line at fault.
+pub type JobFault = Fault<JobKind>;
 
 /// Why there is no job.
-#[derive(Clone, Copy, PartialEq, Eq, Debug)]
-pub enum JobStop {
-    Fault(JobFault),
-    Memory,
+pub type JobStop = Stop<JobFault>;
+
+/// Why a line is not taken.
+pub(crate) type LineStop = Stop<JobKind>;
+
+impl From<JobKind> for Stop<JobKind> {
+    ghost use Rattle.std.specs.Prelude.{◌≡◌};
+    ghost use Rattle.tn_text.specs.declared.stop.Stop.TheVariants.{Fault};
+
+    ghost from_gives = { λ kind stop. stop ≡ Fault kind };
+
+    fn from(kind: JobKind) -> Stop<JobKind> {
+        Stop::Fault(kind)
+    }
 }

@@ -15,7 +15,7 @@ pub(crate) enum Setting {
     Turn,
 }
 
-/// What a line behind the shape begins with.
+/// What a line after the shape begins with.
 #[derive(Clone, Copy, PartialEq, Eq, Debug)]
 pub(crate) enum Keyword {
     Number(Setting),

@@ -1,7 +1,8 @@
 //! Printing a job.
 
 ghost use Rattle.std.specs.Prelude.{◌≡◌, ◌++◌, IfOk, OnOk, decimal, flat_map};
-ghost use Rattle.job_text.specs.Printed.{spaced, header_text, shape_text, setting_text, settings_text, owner_text, end_text, word_text, code_text, asm_text, fill_text, beat_text, table_text, script_text, graph_text, sections_text, text_of};
+ghost use Rattle.tn_text.specs.Words.{spaced};
+ghost use Rattle.job_text.specs.Printed.{header_text, shape_text, setting_text, settings_text, owner_text, end_text, word_text, code_text, asm_text, fill_text, beat_text, table_text, script_text, graph_text, sections_text, text_of};
 
 use crate::job::{
     BeatLine, CodeSection, FillLine, Job, Owner, ScriptLine, ScriptText, TableSection, TextSection,

@@ -1,25 +1,16 @@
 //! Reading a job.
 
 ghost use Rattle.std.specs.Prelude.{◌≡◌, ◌-◌, ◌<◌, ◌^◌, length, IfOk};
+ghost use Rattle.tn_text.specs.Gives.{Gives};
 ghost use Rattle.tn_text.specs.Lines.{lines_of};
 ghost use Rattle.job_text.specs.Text.{job_of};
 ghost use Rattle.job_text.specs.Numbered.{AreNumbered};
 ghost use Rattle.job_text.specs.WellFormed.{IsWellFormed};
-ghost use Rattle.job_text.specs.Gives.{Gives, stop_at};
 
-use crate::draft::{Draft, LineStop};
-use crate::job::{Job, JobFault, JobStop};
+use crate::draft::Draft;
+use crate::job::{Job, JobStop};
 use std::alloc::Global;
 use tn_text::lines::first_line;
-
-fn stopped(line: u32, stop: LineStop) -> JobStop
-    ensures { result ≡ stop_at line stop }
-{
-    match stop {
-        LineStop::Kind(kind) => JobStop::Fault(JobFault { line, kind }),
-        LineStop::Memory => JobStop::Memory,
-    }
-}
 
 fn read(alloc: Global, text: &[u8]) -> Result<Job, JobStop>
     requires { length (lines_of text.now) < 2 ^ 32 - 1 }
@@ -30,9 +21,10 @@ fn read(alloc: Global, text: &[u8]) -> Result<Job, JobStop>
     let mut line = 0;
     while let Some((front, after)) = first_line(rest) {
         line += 1;
-        if let Err(stop) = draft.take_line(alloc, line, front) {
-            return Err(stopped(line, stop));
-        }
+        draft = match draft.take_line(alloc, line, front) {
+            Ok(next) => next,
+            Err(stop) => return Err(stop.at(line)),
+        };
         rest = after;
     }
     draft.finish(line)

@@ -1,5 +1,5 @@
 use Rattle.std.proofs.Common.{arith}
-use Rattle.asm_build.proofs.ShowBack.{show_back}
+use Rattle.asm_build.proofs.ShownText.{show_back}
 use Rattle.asm_build.proofs.laws.law_show.Goals as goal
 
 pub returns : goal.returns

@@ -1,6 +1,6 @@
 use Rattle.std.proofs.Common.{◌∙◌}
 use Rattle.job_load.specs.Faults.{beat_fault}
-use Rattle.job_load.proofs.Faults.{beats_done, beats_more}
+use Rattle.job_load.proofs.Faults.{beats_more}
 use Rattle.job_load.proofs.sections.first_beat_fault.Goals as goal
 
 pub loop-table-preserved : goal.loop-table-preserved

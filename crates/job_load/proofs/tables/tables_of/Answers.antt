@@ -1,6 +1,7 @@
 use Rattle.std.proofs.Common.{◌∙◌, ap, arith}
 use Rattle.tn_base.specs.Parts.{board_at}
 use Rattle.job_load.specs.Tables.{table_for}
+use Rattle.job_text.proofs.Sections.{tables_are}
 use Rattle.job_load.proofs.Boards.{all_tables, boards_long, more_tables, tables_few}
 use Rattle.job_load.proofs.tables.tables_of.Goals as goal
 
@@ -21,7 +22,7 @@ of-requires-clause-few c =
 pub of-requires-clause-short : goal.of-requires-clause-short
 of-requires-clause-short c =
     let made = all_tables c.args.job.now c.loop-i.i c.board_count-count.result c.loop-i.boards.items (rw c.requires.numbers at c.board_count-count.ensures.value) (omega arith) c.loop-i.invariant in
-    λ i. rw made (tables_few c.args.job.now c.requires.formed.tables_are i)
+    λ i. rw made (tables_few c.args.job.now (tables_are c.args.job.now c.requires.formed.sections) i)
 
 pub returns : goal.returns
 returns c =

@@ -1,6 +1,5 @@
 use Rattle.tn_text.specs.Lines.{lines_of}
-use Rattle.job_text.proofs.Numbered.{gives_numbered}
-use Rattle.job_text.proofs.ReadJob.{gives_well_formed}
+use Rattle.job_text.proofs.Sound.{gives_numbered, gives_well_formed}
 use Rattle.job_text.proofs.read.read_job.Goals as goal
 
 pub returns-clause-well_formed : goal.returns-clause-well_formed
