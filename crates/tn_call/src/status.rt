@@ -1,18 +1,19 @@
 //! How a call of the program ends.
-ghost use Rattle.std.specs.Prelude.{◌≡◌};
-ghost use Rattle.tn_run.specs.Answer.{status_of};
-ghost use Rattle.tn_run.specs.Number.{number_of};
+ghost use Rattle.std.specs.Prelude.{◌≡◌, true};
+ghost use Rattle.tn_call.specs.Number.{number_of, read_status, status_of, tells, words_status};
 
 use tn_base::event::Outcome;
+use tn_io::whole::ReadStop;
+use tn_words::command::WordsStop;
 
 /// How a call ended. `number` gives the program's exit status.
 #[derive(Clone, Copy, PartialEq, Eq, Debug)]
 pub enum Status {
-    /// All threads have ended.
+    /// All threads have ended. Of a command that runs no machine: all was written.
     Done,
     /// The words are none of the forms.
     Usage,
-    /// The job is refused.
+    /// The job, or another text, is refused.
     Refused,
     /// A thread trapped.
     Trapped,
@@ -54,7 +55,8 @@ impl Status {
 
     /// The status of an outcome.
     pub fn of(outcome: Outcome) -> Status
-        ensures { result ≡ status_of outcome }
+        ensures status { result ≡ status_of outcome }
+        ensures tells { tells result ≡ true }
     {
         match outcome {
             Outcome::Done => Status::Done,
@@ -62,6 +64,27 @@ impl Status {
             Outcome::BadKey(_) => Status::BadKey,
             Outcome::Spent(_) => Status::Spent,
             Outcome::Jammed => Status::Jammed,
+        }
+    }
+
+    /// The status of words that name no command of the call.
+    pub(crate) fn of_words(stop: WordsStop) -> Status
+        ensures { result ≡ words_status stop }
+    {
+        match stop {
+            WordsStop::Usage => Status::Usage,
+            WordsStop::Memory => Status::Memory,
+        }
+    }
+
+    /// The status of a source whose input was not read to its end.
+    pub(crate) fn of_read(stop: ReadStop) -> Status
+        ensures { result ≡ read_status stop }
+    {
+        match stop {
+            ReadStop::Fault => Status::ReadFault,
+            ReadStop::TooLong => Status::TooLong,
+            ReadStop::Memory => Status::Memory,
         }
     }
 }
