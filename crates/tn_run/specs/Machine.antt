@@ -14,7 +14,7 @@ use Rattle.tn_call.specs.Answers.{Answers, Completes, IsCalm}
 use Rattle.tn_call.specs.Number.{status_of}
 use Rattle.tn_call.specs.Streams.{Streams}
 use Rattle.tn_call.specs.declared.status.Status.{Status}
-use Rattle.tn_call.specs.declared.status.Status.TheVariants as status
+use Rattle.tn_call.specs.declared.status.Status.TheVariants.{Memory, Refused}
 use Rattle.tn_rows.specs.Ends.{IsOutcome}
 use Rattle.tn_rows.specs.Runs.{Run}
 use Rattle.tn_rows.specs.WorldView.{WorldView}
@@ -72,7 +72,7 @@ pub record IsRunOf (trace : Bool) (start : WorldView) (kept : KeptView) (status 
 -- the job is refused, and nothing is kept
 pub record IsRefusal (fault : LoadFault) (kept : KeptView) (status : Status) (text : List ℕ) : Type 0 where
   pub nothing : IsFresh kept
-  pub status_is : status ≡ status.Refused
+  pub status_is : status ≡ Refused
   pub text_is : text ≡ refusal_text fault
 
 abbrev pub IsAnswerOf : Bool → Result WorldView LoadFault → KeptView → Status → List ℕ → Type 0
@@ -93,4 +93,4 @@ RunAnswers status words s kept = Answers machine_reads machine_answer IsFresh st
 abbrev pub RunCompletes : Status → List (List ℕ) → Streams → KeptView → Type 0
 RunCompletes status words s kept =
     (command : MachineCommand) → IsCalm machine_reads machine_answer IsFresh command (machine_form words) s
-    → (status ≡ status.Memory → ⊥) → Completes machine_reads machine_answer IsFresh command status s kept
+    → (status ≡ Memory → ⊥) → Completes machine_reads machine_answer IsFresh command status s kept

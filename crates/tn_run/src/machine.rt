@@ -20,8 +20,8 @@ use job_load::load::load;
 use job_text::job::JobStop;
 use job_text::read::read_job;
 use std::alloc::{AllocError, Global};
-use tn_base::event::{Event, Outcome};
 use tn_bag::laws::law_flight;
+use tn_base::event::{Event, Outcome};
 use tn_call::service::{Answer, Service};
 use tn_call::status::Status;
 use tn_link::plain::PlainLink;
@@ -39,10 +39,7 @@ const MOST_EVENTS: u64 = u64::MAX;
 #[derive(Clone, Copy, PartialEq, Eq, Debug)]
 pub enum MachineCommand {
     /// Runs a job. The machine is run on one thread yet, whatever the number of workers.
-    Run {
-        workers: u32,
-        trace: bool,
-    },
+    Run { workers: u32, trace: bool },
 }
 
 /// What serves the commands that run a machine.
@@ -111,11 +108,7 @@ fn run_text(
 }
 
 /// Runs a machine and reports. The run is one of the bag machine, since the machine is at its start.
-fn run(
-    alloc: Global,
-    trace: bool,
-    start: World<PlainLink>,
-) -> Result<Answer<Kept>, AllocError>
+fn run(alloc: Global, trace: bool, start: World<PlainLink>) -> Result<Answer<Kept>, AllocError>
     requires { IsStart start }
     ensures answers { IfOk result (λ a. IsRunOf trace start a.kept a.status a.text.items) }
     ensures tells { IfOk result (λ a. tells a.status ≡ true) }
@@ -128,11 +121,10 @@ fn run(
     law_flight(&start, &events, &world);
     let outcome = outcome_of(&world, &events);
     let text = run_text(alloc, trace, &events, &world, outcome)?;
-    Ok(Answer {
-        status: Status::of(outcome),
-        text,
-        kept: Kept::of(start, History::from(events)),
-    })
+    let history = History::from(events);
+    let kept = Kept::of(start, history);
+    let status = Status::of(outcome);
+    Ok(Answer { status, text, kept })
 }
 
 /// The answer to a job.
@@ -150,6 +142,7 @@ fn answer_job(alloc: Global, trace: bool, input: &[u8]) -> Result<Answer<Kept>, 
 
 impl Service for MachineService {
     type Served = MachineCommand;
+
     type Kept = Kept;
 
     ghost served = { machine_in };

@@ -120,11 +120,7 @@ fn push_made(
 }
 
 /// The answer to a text.
-fn answer_text(
-    alloc: Global,
-    command: TextCommand,
-    input: &[u8],
-) -> Result<Answer<()>, AllocError>
+fn answer_text(alloc: Global, command: TextCommand, input: &[u8]) -> Result<Answer<()>, AllocError>
     requires { length input.now ≤ 16777216 }
     ensures answers { IfOk result (λ a. text_answer command input.now a.kept a.status a.text.items) }
     ensures tells { IfOk result (λ a. tells a.status ≡ true) }
@@ -143,6 +139,7 @@ fn answer_text(
 
 impl Service for TextService {
     type Served = TextCommand;
+
     type Kept = ();
 
     ghost served = { text_in };

@@ -1,8 +1,8 @@
 use Rattle.std.proofs.Common.{◌≡◌, ◌∙◌, ◌+◌, ap, length, arith}
 use Rattle.tn_text.specs.Lines.{lines_of}
-use Rattle.tn_run.specs.Plain.{before, onto, shown_line, shown_lines}
-use Rattle.tn_run.proofs.PlainStatuses.{onto_before}
-use Rattle.tn_run.proofs.plain.push_lines.Goals as goal
+use Rattle.tn_run.specs.Texts.{before, onto, shown_line, shown_lines}
+use Rattle.tn_run.proofs.Plainly.{onto_before}
+use Rattle.tn_run.proofs.texts.push_lines.Goals as goal
 
 pub loop-front-preserved : goal.loop-front-preserved
 loop-front-preserved c =

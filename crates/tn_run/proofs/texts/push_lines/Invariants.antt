@@ -1,7 +1,7 @@
 use Rattle.std.proofs.Common.{◌≡◌, ◌+◌, length}
 use Rattle.tn_text.specs.Lines.{lines_of}
-use Rattle.tn_run.specs.Plain.{onto, shown_lines}
-use Rattle.tn_run.proofs.plain.push_lines.Given as goal
+use Rattle.tn_run.specs.Texts.{onto, shown_lines}
+use Rattle.tn_run.proofs.texts.push_lines.Given as goal
 
 abbrev pub invariant-loop-front : goal.invariant-loop-front
 invariant-loop-front l = record {

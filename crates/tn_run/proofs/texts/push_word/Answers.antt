@@ -1,6 +1,6 @@
 use Rattle.std.proofs.Common.{append_assoc, codes}
 use Rattle.tn_text.specs.Hex.{hex_word_text}
-use Rattle.tn_run.proofs.plain.push_word.Goals as goal
+use Rattle.tn_run.proofs.texts.push_word.Goals as goal
 
 pub returns : goal.returns
 returns c =
