@@ -1,22 +1,66 @@
 #!/usr/bin/env bash
-# Runs each job of examples/ and compares what it prints with the text beside it, and its exit status with 0. Runs ./tinsel, or the
-# program that is given as a word. Fails if a job differs.
+# Makes the calls of examples/cases.txt, and compares what each call prints, its exit status and its line on standard error with the
+# case's line. Runs ./tinsel, or the program that is given as a word. Fails if a call differs. A case that needs what this machine
+# does not have is skipped.
 set -u
 top=$(cd "$(dirname "${BASH_SOURCE[0]}")/.." && pwd)
-program=${1:-$top/tinsel}
+program=$(realpath "${1:-$top/tinsel}")
+cd "$top/examples" || exit 1
+work=$(mktemp -d) || exit 1
+trap 'rm -rf "$work"' EXIT
 passed=0
 failed=0
-for job in "$top"/examples/*.job; do
-  printed=$(mktemp)
-  "$program" run <"$job" >"$printed"
+skipped=0
+
+# trimmed TEXT: the text without the spaces at its ends
+trimmed() {
+  local text=$1
+  text=${text#"${text%%[! ]*}"}
+  printf '%s' "${text%"${text##*[! ]}"}"
+}
+
+# call WORDS INPUT OUTPUT: makes a call, and sets `status`
+call() {
+  local words=() input=$2 output=$work/printed
+  read -ra words <<<"$1"
+  [ "$input" = - ] && input=/dev/null
+  [ "$3" = full ] && output=/dev/full
+  : >"$work/printed"
+  "$program" "${words[@]}" <"$input" >"$output" 2>"$work/told"
   status=$?
-  if [ "$status" = 0 ] && cmp -s "$printed" "${job%.job}.out"; then
+}
+
+# is_so STATUS NAME OUTPUT: whether the call ended, printed and told so
+is_so() {
+  local wanted=$3
+  case $wanted in -|full) wanted=/dev/null ;; esac
+  : >"$work/wanted"
+  [ "$1" = 0 ] || echo "tinsel: $2" >"$work/wanted"
+  [ "$status" = "$1" ] && cmp -s "$work/printed" "$wanted" && cmp -s "$work/told" "$work/wanted"
+}
+
+while IFS='|' read -r words input ended output; do
+  case $words in '#'*) continue ;; esac
+  words=$(trimmed "$words")
+  input=$(trimmed "$input")
+  output=$(trimmed "$output")
+  read -r number name <<<"$ended"
+  if [ "$output" = full ] && [ ! -c /dev/full ]; then
+    skipped=$((skipped + 1))
+    continue
+  fi
+  call "$words" "$input" "$output"
+  if is_so "$number" "$name" "$output"; then
     passed=$((passed + 1))
   else
-    echo "$(basename "$job"): prints something else, or ends with status $status"
+    echo "tinsel $words < $input: ends with status $status and '$(cat "$work/told")', or prints something else"
     failed=$((failed + 1))
   fi
-  rm -f "$printed"
+done <cases.txt
+
+# Each job of examples/ is in a case.
+for job in *.job; do
+  grep -q "| $job |" cases.txt || { echo "$job is in no case"; failed=$((failed + 1)); }
 done
-echo "examples: $passed passed, $failed failed"
-[ "$failed" = 0 ]
+echo "examples: $passed passed, $failed failed, $skipped skipped"
+[ "$failed" = 0 ] && [ "$passed" != 0 ]

@@ -6,12 +6,11 @@ use std::test::Fail;
 use std::thread::Threads;
 use tn_base::event::Event;
 use tn_base::ids::ThreadId;
+use tn_call::status::Status;
 use tn_io::gate::OpenGate;
 use tn_io::memory::{MemSink, MemSource};
 use tn_run::kept::Kept;
-use tn_run::plain::plain_top;
-use tn_run::status::Status;
-use tn_run::top::run_top;
+use tn_run::top::{plain_top, run_top};
 
 /// Two threads that end with their addresses, each in two steps.
 const TWO: &[u8] = b"tinsel 1\nshape 1 1 1 1 1 2\ncode all\nf1402573\n80b51073\nend\n";
@@ -150,7 +149,7 @@ const NO_TEXT: Case = Case {
 
 /// Each call sets anew what is kept: a call that makes no machine keeps none. `plain_top` keeps nothing, so each case of it
 /// follows one that kept none.
-static CASES: [Case; 28] = [
+static CASES: [Case; 31] = [
     RUN,
     Case {
         source: (1, &[]),
@@ -235,6 +234,24 @@ static CASES: [Case; 28] = [
     },
     Case {
         words: &["run", "--workers", "0"],
+        ..NO_RUN
+    },
+    // The events of the run are written before the report. The sink fails among them.
+    Case {
+        words: &["run", "--trace", "--workers=64"],
+        written: b"turn 0 2\nturn 1 2\nexit 0 0\nexit 1 1\ndone\n",
+        ..RUN
+    },
+    Case {
+        words: &["run", "--trace"],
+        sink: (4, &[2]),
+        status: Status::WriteFault,
+        written: b"turn 0 2",
+        ..RUN
+    },
+    // A command of the other call.
+    Case {
+        words: &["gen", "7", "256"],
         ..NO_RUN
     },
     ASM,

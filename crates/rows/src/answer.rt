@@ -4,13 +4,11 @@ use crate::case::{Case, Form};
 use std::alloc::{AllocError, Global};
 use std::sync::Wait;
 use std::thread::Threads;
+use tn_call::status::Status;
 use tn_io::clean::{CleanSink, CleanSource};
 use tn_io::gate::OpenGate;
 use tn_run::kept::Kept;
-use tn_run::plain::plain_top;
-use tn_run::status::Status;
-use tn_run::top::run_top;
-use tn_run::words::is_for_machine;
+use tn_run::top::serve;
 use tn_text::lines::first_line;
 use tn_text::print::push_decimal;
 
@@ -34,20 +32,16 @@ fn call<H: Threads + Wait + Sync>(
     let mut source = CleanSource::of(Vec::from_slice(alloc, input)?);
     let mut sink = CleanSink::of(alloc);
     sink.reserve(ROOM)?;
-    let status = if is_for_machine(words) {
-        let mut kept = Kept::new(alloc);
-        run_top(
-            rt,
-            alloc,
-            words,
-            &mut source,
-            &mut sink,
-            &OpenGate,
-            &mut kept,
-        )
-    } else {
-        plain_top(alloc, words, &mut source, &mut sink)
-    };
+    let mut kept = Kept::new(alloc);
+    let status = serve(
+        rt,
+        alloc,
+        words,
+        &mut source,
+        &mut sink,
+        &OpenGate,
+        &mut kept,
+    );
     let text = Vec::from_slice(alloc, sink.written())?;
     Ok(Answer { status, text })
 }

@@ -10,7 +10,6 @@ use Rattle.job_load.specs.Gives.{Gives}
 use Rattle.tn_letters.specs.Law.{IsStart}
 use Rattle.tn_base.specs.declared.event.Event.{Event}
 use Rattle.tn_rows.specs.Ends.{final_after, final_of, last_of}
-use Rattle.tn_rows.specs.Runs.{LongRun, Run}
 use Rattle.tn_rows.specs.WorldView.{WorldView}
 
 one_on : (e : Event) (es : List Event) (n : ℕ) → 0 < n → slice_get es (n - 1) ≡ slice_get (e ∷ es) (suc n - 1)
@@ -25,11 +24,6 @@ pub last_is : (events : List Event) → last_of events ≡ slice_get events (len
 last_is [] = refl
 last_is (e ∷ []) = refl
 last_is (e ∷ f ∷ es) = last_is (f ∷ es) ∙ one_on e (f ∷ es) (length (f ∷ es)) (omega arith)
-
--- a run of longest turns is a run
-pub run_of : (start : WorldView) (history : List Event) (end : WorldView) → LongRun start history end → Run start history end
-run_of start [] end h = h
-run_of start (e ∷ es) end h = (h.0, h.1, h.3, run_of h.0 es end h.4)
 
 -- the last event tells how the run ended
 pub final_at : (events : List Event) (e : Event) (w : WorldView) → slice_get events (length events - 1) ≡ Some e → final_after (last_of events) w ≡ final_of e w

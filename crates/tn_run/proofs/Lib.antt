@@ -1,4 +1,3 @@
-pub mod Complete
+pub mod Apart
 pub mod Ending
-pub mod PlainStatuses
-pub mod Statuses
+pub mod Plainly

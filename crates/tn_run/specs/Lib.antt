@@ -1,7 +1,7 @@
-pub mod Answer
 pub mod Kept
-pub mod Number
-pub mod Plain
+pub mod Machine
+pub mod Refusal
 pub mod Report
-pub mod Top
+pub mod Serve
+pub mod Texts
 pub mod Words

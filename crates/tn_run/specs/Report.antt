@@ -12,12 +12,6 @@ use Rattle.tn_text.specs.Hex.{hex_word_text}
 use Rattle.tn_thread.specs.declared.state.ThreadState.{ThreadState}
 use Rattle.tn_thread.specs.declared.state.ThreadState.TheVariants as state
 use Rattle.tn_thread.specs.declared.thread.Thread.{Thread}
-use Rattle.job_load.specs.declared.fault.LoadFault.{LoadFault}
-use Rattle.job_load.specs.Names.{fault_text}
-
--- `refused LINE KIND`
-abbrev pub refusal_text : LoadFault → List ℕ
-refusal_text fault = codes "refused " ++ decimal fault.line ++ codes " " ++ fault_text fault.kind ++ codes "\n"
 
 abbrev pub trap_text : Trap → List ℕ
 trap_text BadInstr = codes "BadInstr"
@@ -48,7 +42,7 @@ exits_from n tile place [] = []
 exits_from n tile place (t ∷ ts) = exit_text (in_tile n tile place) t.state ++ exits_from n tile (place + 1) ts
 
 abbrev pub part_exits : PartView → List ℕ
-part_exits (TileV v) = exits_from v.shape v.tile 0 v.threads
+part_exits (TileV v) = exits_from v.plan.shape v.plan.tile 0 v.now.threads
 part_exits (RouterV v) = []
 part_exits (LinkV v) = []
 part_exits AbsentV = []

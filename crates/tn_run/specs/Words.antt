@@ -1,23 +1,18 @@
--- The words after the program's name.
-use Rattle.std.specs.Prelude.{ℕ, Bool, false, List, [], ◌∷◌, codes, Option, Some, None, if◌then◌else◌}
+-- Which call the words of the command line are for.
+use Rattle.std.specs.Prelude.{◌≡◌, ℕ, Bool, true, false, ◌||◌, List, [], ◌∷◌, codes, None}
 use Rattle.std.specs.Str.{bytes_eq}
-use Rattle.tn_run.specs.declared.words.Command.{Command}
-use Rattle.tn_run.specs.declared.words.Command.TheVariants.{Asm, Show}
+use Rattle.tn_run.specs.Machine.{machine_form}
+use Rattle.tn_run.specs.Texts.{text_form}
 
--- the word `run` alone
-abbrev pub is_form : List (List ℕ) → Bool
-is_form (word ∷ []) = bytes_eq word (codes "run")
-is_form _ = false
-
-abbrev pub command_named : List ℕ → Option Command
-command_named word = if bytes_eq word (codes "asm") then Some Asm else (if bytes_eq word (codes "show") then Some Show else None)
-
--- the word `asm` or the word `show` alone
-abbrev pub command_of : List (List ℕ) → Option Command
-command_of (word ∷ []) = command_named word
-command_of _ = None
-
--- the word `run` is the first
+-- The first word is `run` or `gen`. Such words are for `run_top`, and all others for `plain_top`.
 abbrev pub is_for_machine : List (List ℕ) → Bool
 is_for_machine [] = false
-is_for_machine (first ∷ _) = bytes_eq first (codes "run")
+is_for_machine (first ∷ _) = bytes_eq first (codes "run") || bytes_eq first (codes "gen")
+
+-- Words that are for `plain_top` name no command that runs a machine.
+abbrev pub NoMachine : Type 0
+NoMachine = (words : List (List ℕ)) → is_for_machine words ≡ false → machine_form words ≡ None
+
+-- Words that are for `run_top` name no command on texts.
+abbrev pub NoText : Type 0
+NoText = (words : List (List ℕ)) → is_for_machine words ≡ true → text_form words ≡ None

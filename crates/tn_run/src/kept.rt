@@ -1,5 +1,6 @@
 //! What is kept of a call.
-ghost use Rattle.std.specs.Prelude.{◌≡◌, None, [], option_copied};
+ghost use Rattle.std.specs.Prelude.{◌≡◌, Some, option_copied};
+ghost use Rattle.tn_run.specs.Kept.{IsFresh};
 
 use crate::history::History;
 use std::alloc::Global;
@@ -7,11 +8,11 @@ use std::marker::Model;
 use tn_link::plain::PlainLink;
 use tn_world::world::World;
 
-/// The machine at its start, where a job was accepted, and the events of its run. Each call sets it anew.
+/// The machine at its start, if a job was accepted, and the events of its run. Each call of `run_top` sets it anew.
 #[derive(Drop)]
 pub struct Kept {
-    pub(crate) start: Option<World<PlainLink>>,
-    pub(crate) history: History,
+    start: Option<World<PlainLink>>,
+    history: History,
 }
 
 impl Model for Kept {
@@ -25,8 +26,7 @@ impl Model for Kept {
 impl Kept {
     /// Nothing is kept yet.
     pub fn new(alloc: Global) -> Kept
-        ensures start { result.start ≡ None }
-        ensures history { result.history ≡ [] }
+        ensures { IsFresh result }
     {
         Kept {
             start: None,
@@ -34,7 +34,18 @@ impl Kept {
         }
     }
 
-    /// The machine at its start, where a job was accepted.
+    /// A machine at its start, and the events of its run.
+    pub(crate) fn of(start: World<PlainLink>, history: History) -> Kept
+        ensures start { result.start ≡ Some start }
+        ensures history { result.history ≡ history }
+    {
+        Kept {
+            start: Some(start),
+            history,
+        }
+    }
+
+    /// The machine at its start, if a job was accepted.
     pub fn start(&self) -> Option<&World<PlainLink>>
         ensures { option_copied result ≡ self.now.start }
     {

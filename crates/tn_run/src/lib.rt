@@ -1,15 +1,17 @@
-//! The top call: a job is read, its machine is run, and a report is written.
+//! The top calls: `run_top` for the commands that run a machine, `plain_top` for the commands on texts, and `serve`, which hands the words
+//! to one of the two.
 //!
-//! What the call answers, and why, stands in `specs/Top.antt`; the answer to an input in `specs/Answer.antt`, the
-//! report in `specs/Report.antt`. What a run is, and how it ends, is `tn_rows`; what a job makes is `job_load`. Read
-//! `top::run_top` first. What the commands on texts write and answer stands in `specs/Plain.antt`: `plain::plain_top`.
+//! What a call answers, and why, stands once in tn_call. What a command answers to an input is a line of `specs/Machine.antt` or of
+//! `specs/Texts.antt`, and the report stands in `specs/Report.antt`. What a run is, and how it ends, is tn_rows; what a job makes is job_load.
+//! Read `top::serve` first.
 #![tactic(auto)]
 
-pub mod answer;
 pub mod history;
 pub mod kept;
-pub mod plain;
-pub mod report;
-pub mod status;
+pub mod laws;
+mod machine;
+mod refusal;
+mod report;
+mod texts;
 pub mod top;
 pub mod words;

@@ -1,10 +1,9 @@
 //! The lines that a run writes.
-ghost use Rattle.std.specs.Prelude.{◌≡◌, ◌++◌, IfOk, OnOk, codes, sum_by};
+ghost use Rattle.std.specs.Prelude.{◌≡◌, ◌++◌, OnOk, codes, sum_by};
 ghost use Rattle.tn_letters.specs.Law.{dropped_on};
 ghost use Rattle.tn_text.specs.Hex.{hex_word_text};
-ghost use Rattle.tn_run.specs.Report.{dropped_text, exit_text, exits_from, exits_text, outcome_text, part_exits, refusal_text, report_text, trap_text};
+ghost use Rattle.tn_run.specs.Report.{dropped_text, exit_text, exits_from, exits_text, outcome_text, part_exits, report_text, trap_text};
 
-use job_load::fault::LoadFault;
 use std::alloc::{AllocError, Global};
 use tn_base::event::{Outcome, Trap};
 use tn_link::plain::PlainLink;
@@ -34,19 +33,6 @@ fn trap_name(trap: Trap) -> &'static [u8]
     }
 }
 
-/// The line of a refusal.
-pub fn refusal(alloc: Global, fault: LoadFault) -> Result<Vec<u8>, AllocError>
-    ensures { IfOk result (λ text. text.items ≡ refusal_text fault) }
-{
-    let mut text = Vec::new(alloc);
-    text.extend_from_slice(b"refused ")?;
-    push_decimal(alloc, &mut text, fault.line)?;
-    text.extend_from_slice(b" ")?;
-    text.extend_from_slice(fault.kind.name().as_bytes())?;
-    text.extend_from_slice(b"\n")?;
-    Ok(text)
-}
-
 /// Appends the line of a thread that ended.
 fn push_exit(
     alloc: Global,
@@ -69,7 +55,7 @@ fn push_exit(
 
 /// Appends the lines of the threads of a tile that ended, by address.
 fn push_tile_exits(alloc: Global, text: &mut Vec<u8>, tile: &Tile) -> Result<(), AllocError>
-    ensures { OnOk result (text.new.items ≡ text.old.items ++ exits_from tile.now.shape tile.now.tile 0 tile.now.threads) }
+    ensures { OnOk result (text.new.items ≡ text.old.items ++ exits_from tile.now.plan.shape tile.now.plan.tile 0 tile.now.now.threads) }
 {
     tile.kept();
     let shape = tile.shape();
@@ -176,17 +162,16 @@ fn push_outcome(alloc: Global, text: &mut Vec<u8>, outcome: Outcome) -> Result<(
     }
 }
 
-/// The report of a run that ended so with this machine.
-pub fn report(
+/// Appends the report of a run that ended so with this machine.
+pub(crate) fn push_report(
     alloc: Global,
+    text: &mut Vec<u8>,
     end: &World<PlainLink>,
     outcome: Outcome,
-) -> Result<Vec<u8>, AllocError>
-    ensures { IfOk result (λ text. text.items ≡ report_text end.now outcome) }
+) -> Result<(), AllocError>
+    ensures { OnOk result (text.new.items ≡ text.old.items ++ report_text end.now outcome) }
 {
-    let mut text = Vec::new(alloc);
-    push_exits(alloc, &mut text, end.parts())?;
-    push_dropped(alloc, &mut text, count_dropped(end.parts()))?;
-    push_outcome(alloc, &mut text, outcome)?;
-    Ok(text)
+    push_exits(alloc, text, end.parts())?;
+    push_dropped(alloc, text, count_dropped(end.parts()))?;
+    push_outcome(alloc, text, outcome)
 }

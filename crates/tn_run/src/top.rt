@@ -1,24 +1,28 @@
-//! The top call.
-ghost use Rattle.std.specs.Prelude.{◌≡◌, ◌≢◌, ℕ, List, map, string_bytes};
-ghost use Rattle.tn_run.specs.Top.{Answers, Completes, IsCalm, port, ports};
-ghost use Rattle.tn_run.specs.declared.status.Status.TheVariants as Status;
+//! The top calls.
+ghost use Rattle.std.specs.Prelude.{◌≡◌, true, false, map, string_bytes};
+ghost use Rattle.tn_call.specs.Number.{is_silent};
+ghost use Rattle.tn_call.specs.Streams.{stream, streams};
+ghost use Rattle.tn_call.specs.declared.status.Status.TheVariants as Status;
+ghost use Rattle.tn_run.specs.Machine.{RunAnswers, RunCompletes};
+ghost use Rattle.tn_run.specs.Serve.{Serves};
+ghost use Rattle.tn_run.specs.Texts.{PlainAnswers, PlainCompletes};
+ghost use Rattle.tn_run.specs.Words.{is_for_machine};
 
-use crate::answer::answer_input;
 use crate::kept::Kept;
-use crate::status::Status;
-use crate::words::is_run;
+use crate::machine::MachineService;
+use crate::texts::TextService;
+use crate::words::is_for_machine;
 use std::alloc::Global;
 use std::sync::Wait;
 use std::thread::Threads;
+use tn_call::call::call;
+use tn_call::status::Status;
 use tn_io::gate::Gate;
 use tn_io::sink::Sink;
 use tn_io::source::Source;
-use tn_io::whole::{ReadStop, read_all, write_all};
 
-/// The most bytes of an input.
-pub const MOST_BYTES: usize = 16_777_216;
-
-/// Reads a job from the source, runs its machine, and writes the report into the sink. What the run was is kept.
+/// Serves the commands that run a machine: reads a job from the source, runs its machine, and writes the report into the sink. What the run
+/// was is kept.
 ///
 /// The handle and the gate are not used yet: the machine is run on one thread.
 pub fn run_top<H: Threads + Wait + Sync, R: Source, W: Sink, G: Gate + Sync>(
@@ -31,52 +35,78 @@ pub fn run_top<H: Threads + Wait + Sync, R: Source, W: Sink, G: Gate + Sync>(
     kept: &mut Kept,
 ) -> Status
     // Each status with its cause.
-    ensures cause { Answers result (map string_bytes words.now) (ports
-        (port (R.left source.old) (R.faults source.old)) (port (R.left source.new) (R.faults source.new))
-        (port (W.written sink.old) (W.faults sink.old)) (port (W.written sink.new) (W.faults sink.new))) kept.new }
+    ensures cause { RunAnswers result (map string_bytes words.now)
+        (streams (stream R.left R.faults source.old) (stream R.left R.faults source.new) (stream W.written W.faults sink.old) (stream W.written W.faults sink.new))
+        kept.new }
 
-    // Where no fault rose and memory was there, the whole answer to the whole input is written.
-    ensures complete { let p = ports
-        (port (R.left source.old) (R.faults source.old)) (port (R.left source.new) (R.faults source.new))
-        (port (W.written sink.old) (W.faults sink.old)) (port (W.written sink.new) (W.faults sink.new)) in
-        (input : List ℕ) → IsCalm (map string_bytes words.now) input p → result ≢ Status.Memory
-        → Completes result input p kept.new }
+    // If no fault rose and memory was there, the whole answer to the whole input is written.
+    ensures complete { RunCompletes result (map string_bytes words.now)
+        (streams (stream R.left R.faults source.old) (stream R.left R.faults source.new) (stream W.written W.faults sink.old) (stream W.written W.faults sink.new))
+        kept.new }
 
-    // Words that are no form leave the source and the sink as they were.
-    ensures usage { result ≡ Status.Usage → (source.new ≡ source.old) × (sink.new ≡ sink.old) }
+    // Words that are no form leave the source as it was.
+    ensures unread { result ≡ Status.Usage → source.new ≡ source.old }
+
+    // If the status is Usage, ReadFault, TooLong or Memory, the sink is as it was.
+    ensures unwritten { is_silent result ≡ true → sink.new ≡ sink.old }
 {
-    run_with(alloc, words, source, sink, kept)
+    let called = call(alloc, &MachineService, words, source, sink);
+    *kept = called.kept;
+    called.status
 }
 
-/// The same without the handle and the gate.
-fn run_with<R: Source, W: Sink>(
+/// Serves the commands on texts. `asm` writes the words of assembly, a word a line in eight lower-case hexadecimal digits. `show` writes the
+/// canonical line of each word.
+pub fn plain_top<R: Source, W: Sink>(
     alloc: Global,
     words: &[String],
     source: &mut R,
     sink: &mut W,
+) -> Status
+    // Each status with its cause.
+    ensures cause { PlainAnswers result (map string_bytes words.now)
+        (streams (stream R.left R.faults source.old) (stream R.left R.faults source.new) (stream W.written W.faults sink.old) (stream W.written W.faults sink.new)) }
+
+    // If no fault rose and memory was there, the whole answer to the whole input is written.
+    ensures complete { PlainCompletes result (map string_bytes words.now)
+        (streams (stream R.left R.faults source.old) (stream R.left R.faults source.new) (stream W.written W.faults sink.old) (stream W.written W.faults sink.new)) }
+
+    // Words that are no form leave the source as it was.
+    ensures unread { result ≡ Status.Usage → source.new ≡ source.old }
+
+    // If the status is Usage, ReadFault, TooLong or Memory, the sink is as it was.
+    ensures unwritten { is_silent result ≡ true → sink.new ≡ sink.old }
+{
+    call(alloc, &TextService, words, source, sink).status
+}
+
+/// Hands the words to `run_top` if their first word names a command that runs a machine, and to `plain_top` else.
+pub fn serve<H: Threads + Wait + Sync, R: Source, W: Sink, G: Gate + Sync>(
+    rt: &H,
+    alloc: Global,
+    words: &[String],
+    source: &mut R,
+    sink: &mut W,
+    gate: &G,
     kept: &mut Kept,
 ) -> Status
-    ensures cause { Answers result (map string_bytes words.now) (ports
-        (port (R.left source.old) (R.faults source.old)) (port (R.left source.new) (R.faults source.new))
-        (port (W.written sink.old) (W.faults sink.old)) (port (W.written sink.new) (W.faults sink.new))) kept.new }
-    ensures usage { result ≡ Status.Usage → (source.new ≡ source.old) × (sink.new ≡ sink.old) }
+    // What the call answers that the words are for.
+    ensures cause { Serves result (map string_bytes words.now)
+        (streams (stream R.left R.faults source.old) (stream R.left R.faults source.new) (stream W.written W.faults sink.old) (stream W.written W.faults sink.new))
+        kept.new }
+
+    // Words that are no form leave the source as it was.
+    ensures unread { result ≡ Status.Usage → source.new ≡ source.old }
+
+    // If the status is Usage, ReadFault, TooLong or Memory, the sink is as it was.
+    ensures unwritten { is_silent result ≡ true → sink.new ≡ sink.old }
+
+    // `plain_top` keeps nothing, and leaves what was kept as it was.
+    ensures kept { is_for_machine (map string_bytes words.now) ≡ false → kept.new ≡ kept.old }
 {
-    *kept = Kept::new(alloc);
-    if !is_run(words) {
-        return Status::Usage;
-    }
-    let input = match read_all(alloc, source, MOST_BYTES) {
-        Ok(input) => input,
-        Err(ReadStop::Fault) => return Status::ReadFault,
-        Err(ReadStop::TooLong) => return Status::TooLong,
-        Err(ReadStop::Memory) => return Status::Memory,
-    };
-    let Ok(output) = answer_input(alloc, input.as_slice(), kept) else {
-        *kept = Kept::new(alloc);
-        return Status::Memory;
-    };
-    match write_all(sink, output.text.as_slice()) {
-        Ok(()) => output.status,
-        Err(_) => Status::WriteFault,
+    if is_for_machine(words) {
+        run_top(rt, alloc, words, source, sink, gate, kept)
+    } else {
+        plain_top(alloc, words, source, sink)
     }
 }

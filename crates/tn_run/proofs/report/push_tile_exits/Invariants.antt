@@ -5,5 +5,5 @@ use Rattle.tn_run.proofs.report.push_tile_exits.Given as goal
 abbrev pub invariant-loop-thread : goal.invariant-loop-thread
 invariant-loop-thread l = record {
   place : l.place ≡ l.thread-index;
-  text : l.text.items ++ exits_from l.tile.shape l.tile.tile l.place (drop l.thread-index l.tile.threads) ≡ l.initial.text.items ++ exits_from l.tile.shape l.tile.tile 0 l.tile.threads;
+  text : l.text.items ++ exits_from l.tile.plan.shape l.tile.plan.tile l.place (drop l.thread-index l.tile.now.threads) ≡ l.initial.text.items ++ exits_from l.tile.plan.shape l.tile.plan.tile 0 l.tile.now.threads;
 }

@@ -1,0 +1,96 @@
+-- The commands that run a machine, and what each answers to an input.
+use Rattle.std.specs.Prelude.{◌≡◌, ℕ, Bool, true, List, [], ◌++◌, if◌then◌else◌, None, Option, Some, option_and_then}
+use Rattle.std.specs.declared.result.Result.{Result}
+use Rattle.std.specs.declared.result.Result.TheVariants.{Ok, Err}
+use Rattle.job_load.specs.declared.fault.LoadFault.{LoadFault}
+use Rattle.job_load.specs.Loaded.{loaded}
+use Rattle.job_load.specs.Names.{name_of_text}
+use Rattle.job_text.specs.declared.job.Job.{Job}
+use Rattle.job_text.specs.declared.job.JobFault.{JobFault}
+use Rattle.job_text.specs.Text.{job_of}
+use Rattle.tn_letters.specs.Law.{IsBagRun}
+use Rattle.tn_base.specs.declared.event.Outcome.{Outcome}
+use Rattle.tn_call.specs.Answers.{Answers, Completes, IsCalm}
+use Rattle.tn_call.specs.Number.{status_of}
+use Rattle.tn_call.specs.Streams.{Streams}
+use Rattle.tn_call.specs.declared.status.Status.{Status}
+use Rattle.tn_call.specs.declared.status.Status.TheVariants.{Memory, Refused}
+use Rattle.tn_rows.specs.Ends.{IsOutcome}
+use Rattle.tn_rows.specs.Runs.{Run}
+use Rattle.tn_rows.specs.WorldView.{WorldView}
+use Rattle.tn_text.specs.Lines.{lines_of}
+use Rattle.tn_trace.specs.Events.{events_text}
+use Rattle.tn_words.specs.declared.command.Command.{Command}
+use Rattle.tn_words.specs.declared.command.Command.TheVariants as command
+use Rattle.tn_words.specs.Forms.{form_of}
+use Rattle.tn_run.specs.declared.machine.MachineCommand.{MachineCommand}
+use Rattle.tn_run.specs.declared.machine.MachineCommand.TheVariants as machine
+use Rattle.tn_run.specs.Kept.{IsFresh, KeptView}
+use Rattle.tn_run.specs.Refusal.{refusal_text}
+use Rattle.tn_run.specs.Report.{report_text}
+
+-- The commands.
+
+-- the command that runs a machine, if the words' command is one and is built
+abbrev pub machine_in : Command → Option MachineCommand
+machine_in (command.Run workers trace) = Some (machine.Run workers trace)
+machine_in other = None
+
+-- the command of words that are a form of `run_top`
+abbrev pub machine_form : List (List ℕ) → Option MachineCommand
+machine_form words = option_and_then machine_in (form_of words)
+
+-- the command reads a job from the source
+abbrev pub machine_reads : MachineCommand → Bool
+machine_reads (machine.Run workers trace) = true
+
+-- From an input to its machine.
+
+-- the machine of what was read, at its start, or the first fault
+abbrev pub machine_by : Result Job JobFault → Result WorldView LoadFault
+machine_by (Ok job) = loaded job
+machine_by (Err fault) = Err (record { line = fault.line; kind = name_of_text fault.kind })
+
+-- the machine of an input, at its start, or the first fault
+abbrev pub machine_of : List ℕ → Result WorldView LoadFault
+machine_of input = machine_by (job_of (lines_of input))
+
+-- What a command answers.
+
+-- The kept history is a run of the machine to its end, and of the bag machine that says what messages mean. The status and the report
+-- tell how the run ended. If the trace is asked for, the events of the kept history are written before the report.
+pub record IsRunOf (trace : Bool) (start : WorldView) (kept : KeptView) (status : Status) (text : List ℕ) : Type 0 where
+  pub kept_start : kept.start ≡ Some start
+  pub end : WorldView
+  pub outcome : Outcome
+  pub run : Run start kept.history end
+  pub means : IsBagRun start kept.history end
+  pub ended : IsOutcome kept.history end outcome
+  pub status_is : status ≡ status_of outcome
+  pub text_is : text ≡ (if trace then events_text kept.history else []) ++ report_text end outcome
+
+-- the job is refused, and nothing is kept
+pub record IsRefusal (fault : LoadFault) (kept : KeptView) (status : Status) (text : List ℕ) : Type 0 where
+  pub nothing : IsFresh kept
+  pub status_is : status ≡ Refused
+  pub text_is : text ≡ refusal_text fault
+
+abbrev pub IsAnswerOf : Bool → Result WorldView LoadFault → KeptView → Status → List ℕ → Type 0
+IsAnswerOf trace (Err fault) kept status text = IsRefusal fault kept status text
+IsAnswerOf trace (Ok start) kept status text = IsRunOf trace start kept status text
+
+-- a line for each command: the status and the text are its answer to the input, by what is kept
+abbrev pub machine_answer : MachineCommand → List ℕ → KeptView → Status → List ℕ → Type 0
+machine_answer (machine.Run workers trace) input kept status text = IsAnswerOf trace (machine_of input) kept status text
+
+-- What `run_top` answers.
+
+-- each status with its cause
+abbrev pub RunAnswers : Status → List (List ℕ) → Streams → KeptView → Type 0
+RunAnswers status words s kept = Answers machine_reads machine_answer IsFresh status (machine_form words) s kept
+
+-- If no fault rose and memory was there, the whole answer of the command to its whole input is written.
+abbrev pub RunCompletes : Status → List (List ℕ) → Streams → KeptView → Type 0
+RunCompletes status words s kept =
+    (command : MachineCommand) → IsCalm machine_reads machine_answer IsFresh command (machine_form words) s
+    → (status ≡ Memory → ⊥) → Completes machine_reads machine_answer IsFresh command status s kept

@@ -1,0 +1,14 @@
+//! Laws of the commands.
+ghost use Rattle.tn_run.specs.Texts.{EndsPlainly};
+ghost use Rattle.tn_run.specs.Words.{NoMachine, NoText};
+
+/// Words that are for one of the calls are no form of the other call: no form of a command gets lost between the two.
+pub fn law_words()
+    ensures machine { NoMachine }
+    ensures text { NoText }
+{}
+
+/// A command on texts never ends with the status of a machine that did not end well.
+pub fn law_text_status()
+    ensures { EndsPlainly }
+{}

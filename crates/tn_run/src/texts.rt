@@ -1,0 +1,181 @@
+//! The commands that read a text and write another.
+ghost use Rattle.std.specs.Prelude.{◌≡◌, ◌≤◌, ◌++◌, true, IfOk, OnOk, length};
+ghost use Rattle.tn_call.specs.Number.{tells};
+ghost use Rattle.tn_run.specs.Texts.{Anything, Makes, made_by, onto, reads_all, shown_line, shown_text, text_answer, text_in, word_line, words_text};
+ghost use Rattle.tn_run.specs.declared.texts.TextCommand.{TextCommand};
+
+use crate::refusal::refused;
+use asm_build::show::show;
+use asm_text::fault::AsmStop;
+use job_load::assembly::assemble_text;
+use job_load::fault::{FaultName, LoadFault, LoadStop};
+use std::alloc::{AllocError, Global};
+use tn_call::service::{Answer, Service};
+use tn_call::status::Status;
+use tn_text::content::content;
+use tn_text::hex::hex_word;
+use tn_text::lines::{first_line, law_line_count};
+use tn_text::print::push_hex_word;
+use tn_words::command::Command;
+
+/// A command that reads a text and writes another.
+#[derive(Clone, Copy, PartialEq, Eq, Debug)]
+pub enum TextCommand {
+    /// From assembly to words.
+    Asm,
+    /// From words to assembly.
+    Show,
+}
+
+/// What serves the commands on texts.
+pub(crate) struct TextService;
+
+/// Appends a word in eight lower-case hexadecimal digits.
+fn push_word(text: &mut Vec<u8>, word: u32) -> Result<(), AllocError>
+    ensures { OnOk result (text.new.items ≡ text.old.items ++ word_line word) }
+{
+    push_hex_word(text, word)?;
+    text.extend_from_slice(b"\n")?;
+    Ok(())
+}
+
+fn push_words(text: &mut Vec<u8>, words: &[u32]) -> Result<(), AllocError>
+    ensures { OnOk result (text.new.items ≡ text.old.items ++ words_text words.now) }
+{
+    for word in words {
+        push_word(text, *word)?;
+    }
+    Ok(())
+}
+
+/// Appends the words of a text of assembly.
+fn push_assembled(alloc: Global, text: &mut Vec<u8>, input: &[u8]) -> Result<(), LoadStop>
+    requires { length input.now ≤ 16777216 }
+    ensures { Makes result text.new.items (onto text.old.items (made_by TextCommand.Asm input.now)) }
+{
+    law_line_count(input);
+    match assemble_text(alloc, input, 1) {
+        Ok(image) => Ok(push_words(text, image.words.as_slice())?),
+        Err(AsmStop::Memory) => Err(LoadStop::Memory),
+        Err(AsmStop::Fault(fault)) => Err(LoadStop::Fault(LoadFault::of_asm(fault))),
+    }
+}
+
+/// Appends the canonical line of a word.
+fn push_shown(alloc: Global, text: &mut Vec<u8>, word: u32) -> Result<(), AllocError>
+    ensures { OnOk result (text.new.items ≡ text.old.items ++ shown_text word) }
+{
+    let line = show(alloc, word)?;
+    text.extend_from_slice(line.as_slice())?;
+    text.extend_from_slice(b"\n")?;
+    Ok(())
+}
+
+/// Appends the canonical line of the word that a line says.
+fn push_line(alloc: Global, text: &mut Vec<u8>, number: u32, line: &[u8]) -> Result<(), LoadStop>
+    ensures { Makes result text.new.items (onto text.old.items (shown_line number line.now)) }
+{
+    let word = content(line);
+    if word.is_empty() {
+        return Ok(());
+    }
+    match hex_word(word) {
+        Some(word) => Ok(push_shown(alloc, text, word)?),
+        None => Err(LoadStop::Fault(LoadFault {
+            line: number,
+            kind: FaultName::BadWord,
+        })),
+    }
+}
+
+/// Appends the canonical lines of the words of a text.
+fn push_lines(alloc: Global, text: &mut Vec<u8>, input: &[u8]) -> Result<(), LoadStop>
+    requires { length input.now ≤ 16777216 }
+    ensures { Makes result text.new.items (onto text.old.items (made_by TextCommand.Show input.now)) }
+{
+    law_line_count(input);
+    let mut number = 1;
+    let mut rest = input;
+    while let Some((front, after)) = first_line(rest) {
+        push_line(alloc, text, number, front)?;
+        number += 1;
+        rest = after;
+    }
+    Ok(())
+}
+
+fn push_made(
+    alloc: Global,
+    text: &mut Vec<u8>,
+    command: TextCommand,
+    input: &[u8],
+) -> Result<(), LoadStop>
+    requires { length input.now ≤ 16777216 }
+    ensures { Makes result text.new.items (onto text.old.items (made_by command input.now)) }
+{
+    match command {
+        TextCommand::Asm => push_assembled(alloc, text, input),
+        TextCommand::Show => push_lines(alloc, text, input),
+    }
+}
+
+/// The answer to a text.
+fn answer_text(alloc: Global, command: TextCommand, input: &[u8]) -> Result<Answer<()>, AllocError>
+    requires { length input.now ≤ 16777216 }
+    ensures answers { IfOk result (λ a. text_answer command input.now a.kept a.status a.text.items) }
+    ensures tells { IfOk result (λ a. tells a.status ≡ true) }
+{
+    let mut text = Vec::new(alloc);
+    match push_made(alloc, &mut text, command, input) {
+        Ok(()) => Ok(Answer {
+            status: Status::Done,
+            text,
+            kept: (),
+        }),
+        Err(LoadStop::Memory) => Err(AllocError),
+        Err(LoadStop::Fault(fault)) => refused(alloc, fault, ()),
+    }
+}
+
+impl Service for TextService {
+    type Served = TextCommand;
+
+    type Kept = ();
+
+    ghost served = { text_in };
+
+    ghost reads = { reads_all };
+
+    ghost answer = { text_answer };
+
+    ghost fresh = { Anything };
+
+    fn served(command: Command) -> Option<TextCommand> {
+        match command {
+            Command::Asm => Some(TextCommand::Asm),
+            Command::Show => Some(TextCommand::Show),
+            Command::Run { .. }
+            | Command::Gen { .. }
+            | Command::Map
+            | Command::Check
+            | Command::Follow { .. }
+            | Command::Bsp
+            | Command::Wire { .. } => None,
+        }
+    }
+
+    fn reads(_command: TextCommand) -> bool {
+        true
+    }
+
+    fn nothing(_alloc: Global) {}
+
+    fn answer(
+        &self,
+        alloc: Global,
+        command: TextCommand,
+        input: &[u8],
+    ) -> Result<Answer<()>, AllocError> {
+        answer_text(alloc, command, input)
+    }
+}
