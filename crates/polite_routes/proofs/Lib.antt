@@ -14,3 +14,8 @@ pub mod Records
 pub mod Routing
 pub mod Trees
 pub mod Walks
+pub mod Entries
+pub mod Tallies
+pub mod Bare
+pub mod PinRows
+pub mod Serving
