@@ -1,6 +1,7 @@
 -- The tree of a pin without edges: nothing is planted.
-use Rattle.std.proofs.Common.{◌≡◌, ℕ, suc, zero, ◌+◌, List, [], ◌∷◌, ◌++◌, append-nil, map, refl, ◌∙◌, ap, Option, Some, None}
-use Rattle.std.proofs.lemmas.List.{set-get_or}
+use Rattle.std.proofs.Common.{◌≡◌, ℕ, suc, zero, ◌+◌, eqb, cond, Bool, true, false, List, [], ◌∷◌, ◌++◌, append-nil, length, map, refl, sym, ◌∙◌, ap, arith, Option, Some, None, Ok}
+use Rattle.std.proofs.lemmas.Bool.Decides.{nat_tests}
+use Rattle.std.proofs.lemmas.List.{nil_from_length, set-get_or}
 use Rattle.std.specs.List.{flat_map, range_with_len}
 use Rattle.tn_base.specs.declared.ids.Board.{Board}
 use Rattle.tn_base.specs.declared.shape.ShapeNumbers.{ShapeNumbers}
@@ -9,6 +10,8 @@ use Rattle.tn_keys.specs.Tables.{Table, board_place, table_of}
 use Rattle.tn_keys.specs.declared.record.RouteRec.{RouteRec}
 use Rattle.polite_routes.specs.declared.target.Spot.{Spot}
 use Rattle.polite_routes.specs.declared.tree.Child.{Child}
+use Rattle.polite_routes.specs.declared.target.Target.{Target}
+use Rattle.polite_routes.specs.Full.{Gives, is_full}
 use Rattle.polite_routes.specs.Pack.{key_for, with_records}
 use Rattle.polite_routes.specs.Targets.{spot_at, spot_for, spots_for}
 use Rattle.polite_routes.specs.Tree.{Planted, child, column, mrm, mrms, no_key, planted, row, rrs, tile_index, tree, tree_records}
@@ -76,3 +79,11 @@ blank_spots f = record { blank = λ i. blank_by f 0 256 i }
 -- the tree of no edges
 pub bare_tree : (n : ShapeNumbers) (f : ℕ → ℕ) (b : Board) (ts : List Table) → tree n (spots_for [] f) b ts ≡ no_key ts
 bare_tree n f b ts = tree_none n (spots_for [] f) b ts (blank_spots f)
+
+pub gives_none : (n : ShapeNumbers) (f : ℕ → ℕ) (b : Board) (ts : List Table) (targets : List Target) → targets ≡ [] → is_full ts ≡ false → Gives (Ok None) ts (tree n (spots_for targets f) b ts).tables (tree n (spots_for targets f) b ts).key
+gives_none n f b ts targets h short =
+    let e : tree n (spots_for targets f) b ts ≡ no_key ts = ap (λ xs. tree n (spots_for xs f) b ts) h ∙ bare_tree n f b ts in
+    (sym (ap (λ (q : Planted). q.key) e), sym (ap (λ (q : Planted). q.tables) e), ap (λ (q : Planted). is_full q.tables) e ∙ short)
+
+pub no_targets : (ts slice : List Target) (v : Bool) → v ≡ true → v ≡ eqb (length slice) 0 → slice ≡ ts → ts ≡ []
+no_targets ts slice v h e s = let z : length slice ≡ 0 = grind (arith, nat_tests) in sym s ∙ nil_from_length slice z

@@ -19,3 +19,4 @@ pub mod Tallies
 pub mod Bare
 pub mod PinRows
 pub mod Serving
+pub mod Addressed

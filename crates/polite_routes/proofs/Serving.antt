@@ -22,7 +22,7 @@ use Rattle.polite_routes.specs.declared.routes.RouteSet.{RouteSet}
 use Rattle.polite_routes.specs.declared.target.Pin.{Pin}
 use Rattle.polite_routes.specs.declared.target.RouteStop.TheVariants.{KeysFull, TableFull}
 use Rattle.polite_routes.specs.declared.target.Target.{Target}
-use Rattle.polite_routes.specs.Answer.{AllServed, KeyedByEdges, ListedBy, Served, keys_of, listed_key, pin_key, routes_by, routes_of, vertex_keys}
+use Rattle.polite_routes.specs.Answer.{AllServed, KeyedByEdges, Served, keys_of, listed_key, lists_in, pin_key, routes_by, routes_of, vertex_keys}
 use Rattle.polite_routes.specs.Full.{is_full}
 use Rattle.polite_routes.specs.Hops.{Hop, arrives, reach_of}
 use Rattle.polite_routes.specs.Passes.{PassesButWidth}
@@ -31,6 +31,7 @@ use Rattle.polite_routes.specs.Pins.{board_of, edges_of, pin_place, pins_of, tar
 use Rattle.polite_routes.specs.Routes.{PinRouted, PinsThere, in_edges_of, in_lists, key_at, keys_full, keys_to, lists_to, local_of, pin_at, planting, tables_after, tables_of}
 use Rattle.polite_routes.specs.Targets.{spots_for}
 use Rattle.polite_routes.specs.Tree.{Planted, tree}
+use Rattle.polite_routes.proofs.Addressed.{once_same, same_lists}
 use Rattle.polite_routes.proofs.Bare.{bare_tree}
 use Rattle.polite_routes.proofs.Marking.{no_pin}
 use Rattle.polite_routes.proofs.PinRows.{few_pins, first_pin_at, length_pins}
@@ -78,11 +79,6 @@ key_is n g ps v pin h l =
     ap (λ (ks : List (Option ℕ)). get_or ks pin None) (get_or-map-range_with_len (vertex_keys n g ps) 0 (length g.vertices) v v [] h (omega arith))
     ∙ get_or-map-range_with_len (λ p. key_at n ps (pin_place v p)) 0 (pins_at g v) pin pin None l (omega arith)
 
-pub listed_by : (n : ShapeNumbers) (ps : List Pin) → ListedBy n (in_edges_of n ps) (in_lists ps)
-listed_by n ps = record {
-  each = λ i k h. ap (λ (xs : List (List InEdge)). get_or xs k []) (sym (get_or-map-range_with_len (λ j. lists_to ps (thread_at n j)) 0 (thread_count n) i i [] h (omega arith)));
-}
-
 pin_is : (g : Graph) (placement : List Seat) (v pin : ℕ) → v < length g.vertices → pin < 4
     → pin_at (pins_of g placement) (pin_place v pin) ≡ record { board = board_of (seat_of placement v).thread.0; targets = targets_of g.edges placement v pin }
 pin_is g placement v pin h l =
@@ -106,17 +102,19 @@ routed_pin n g placement v pin l t h f =
     subst (λ (p : Pin). RoutedBy n (tables_of n ps) (in_lists ps) (key_at n ps j) (local_of ps j) p) (pin_is g placement v pin h f)
     (routed n ps j l t (place_there g placement v pin h f))
 
+routed_in : (n : ShapeNumbers) (tables : List Table) (new old : Lists) (b : Board) (key : Option ℕ) (ts : List Target) (locals : ℕ → ℕ) → ((a k : ℕ) → new a k ≡ old a k) → PinRouted n tables old b key ts locals → PinRouted n tables new b key ts locals
+routed_in n tables new old b key ts locals e r = record { hops = r.hops; reached = r.reached; once = once_same new old r.hops ts locals e r.once; straight = r.straight }
+
 served_by : (n : ShapeNumbers) (g : Graph) (placement : List Seat) (v pin : ℕ) → WithinLimits n → IsGraph g → PinsThere n (pins_of g placement) → v < length g.vertices → pin < pins_at g v
     → Served n g placement (record { tables = tables_of n (pins_of g placement); keys = keys_of n g (pins_of g placement); in_edges = in_edges_of n (pins_of g placement) }) v pin
 served_by n g placement v pin l ok t h f =
     let ps : List Pin = pins_of g placement in
     let few = few_pins g v ok in
     record {
-      lists = in_lists ps;
-      listed = listed_by n ps;
       locals = local_of ps (pin_place v pin);
-      routed = subst (λ (k : Option ℕ). PinRouted n (tables_of n ps) (in_lists ps) (board_of (seat_of placement v).thread.0) k (targets_of g.edges placement v pin) (local_of ps (pin_place v pin)))
-          (sym (key_is n g ps v pin h f)) (routed_pin n g placement v pin l t h (omega arith));
+      routed = subst (λ (k : Option ℕ). PinRouted n (tables_of n ps) (lists_in n (in_edges_of n ps)) (board_of (seat_of placement v).thread.0) k (targets_of g.edges placement v pin) (local_of ps (pin_place v pin)))
+          (sym (key_is n g ps v pin h f)) (routed_in n (tables_of n ps) (lists_in n (in_edges_of n ps)) (in_lists ps) (board_of (seat_of placement v).thread.0) (key_at n ps (pin_place v pin)) (targets_of g.edges placement v pin) (local_of ps (pin_place v pin))
+          (λ a k. same_lists n ps a k l t) (routed_pin n g placement v pin l t h (omega arith)));
     }
 
 pub all_served : (n : ShapeNumbers) (g : Graph) (placement : List Seat) (s : RouteSet) → WithinLimits n → IsGraph g → PinsThere n (pins_of g placement) → Ok s ≡ routes_of n g placement → AllServed n g placement s

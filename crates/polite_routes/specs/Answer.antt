@@ -12,7 +12,7 @@ use Rattle.graph_text.specs.declared.graph.Graph.{Graph}
 use Rattle.graph_text.specs.Graph.{pins_at}
 use Rattle.polite_switch.specs.declared.device.InEdge.{InEdge}
 use Rattle.polite_place.specs.declared.placement.Seat.{Seat}
-use Rattle.polite_place.specs.Seats.{seat_of}
+use Rattle.polite_place.specs.Seats.{place_in, seat_of}
 use Rattle.polite_routes.specs.declared.routes.RouteSet.{RouteSet}
 use Rattle.polite_routes.specs.declared.target.Pin.{Pin}
 use Rattle.polite_routes.specs.declared.target.RouteStop.{RouteStop}
@@ -59,16 +59,19 @@ pin_key keys v pin = slice_index_or (slice_index_or keys v []) pin None
 pub record KeyedByEdges (graph : Graph) (keys : List (List (Option ℕ))) : Type 0 where
   pub none : (v pin : ℕ) → v < length graph.vertices → pin < pins_at graph v → (pin_key keys v pin ≡ None) ↔ (edges_of graph.edges v pin ≡ [])
 
--- in-edges by address and local key are those by thread in ascending order and local key
-pub record ListedBy (n : ShapeNumbers) (in_edges : List (List (List InEdge))) (lists : Lists) : Type 0 where
-  pub each : (i local : ℕ) → i < thread_count n → lists (thread_at n i) local ≡ slice_index_or (slice_index_or in_edges i []) local []
+-- the place of a thread among all threads by ascending address; where the machine has no such thread, the number of its threads
+abbrev pub thread_place : ShapeNumbers → ℕ → ℕ
+thread_place n a = place_in (map (thread_at n) (range_with_len 0 (thread_count n))) a
 
--- what the key of a vertex's pin reaches, with the in-edge lists, is exactly the pin's edges, each once; and its branches are straight
+-- the in-edges of a thread of this address at a local key, where in-edges are by thread and local key. An address of no thread has none
+abbrev pub lists_in : ShapeNumbers → List (List (List InEdge)) → Lists
+lists_in n in_edges a local = slice_index_or (slice_index_or in_edges (thread_place n a) []) local []
+
+-- what the key of a vertex's pin reaches, with the in-edge lists, is exactly the pin's edges, each once; and its branches are straight.
+-- `locals` has the local key by tile
 pub record Served (n : ShapeNumbers) (graph : Graph) (placement : List Seat) (set : RouteSet) (v pin : ℕ) : Type 0 where
-  pub lists : Lists
-  pub listed : ListedBy n set.in_edges lists
   pub locals : ℕ → ℕ
-  pub routed : PinRouted n set.tables lists (board_of (seat_of placement v).thread.0) (pin_key set.keys v pin) (targets_of graph.edges placement v pin) locals
+  pub routed : PinRouted n set.tables (lists_in n set.in_edges) (board_of (seat_of placement v).thread.0) (pin_key set.keys v pin) (targets_of graph.edges placement v pin) locals
 
 pub record AllServed (n : ShapeNumbers) (graph : Graph) (placement : List Seat) (set : RouteSet) : Type 0 where
   pub served : (v pin : ℕ) → v < length graph.vertices → pin < pins_at graph v → Served n graph placement set v pin

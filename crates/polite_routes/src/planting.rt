@@ -82,7 +82,11 @@ fn plant_pin(
     ensures room { IfOk result (λ _. length counts.new ≡ 256) }
 {
     let _numbers = shape.numbers();
-    let spots = number(alloc, counts, pin.targets.as_slice())?;
+    let targets = pin.targets.as_slice();
+    if targets.is_empty() {
+        return Ok(None);
+    }
+    let spots = number(alloc, counts, targets)?;
     plant_tree(alloc, shape, spots.as_slice(), draft, pin.board)
 }
 
