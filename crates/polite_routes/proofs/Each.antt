@@ -162,7 +162,7 @@ parts n a h =
     let u = and_parts _ _ t.0 in
     record { small = ltb-true _ _ u.0; tile_x = ltb-true _ _ u.1; tile_y = ltb-true _ _ t.1; board_x = ltb-true _ _ s.1; board_y = ltb-true _ _ r.1; thread = ltb-true _ _ q.1; core = ltb-true _ _ p.1 }
 
-not_to : (n : ShapeNumbers) (ts : List Target) (a : ℕ) → All (λ (t : Target). has_thread n t.thread.0 ≡ true) ts → (has_thread n a ≡ true → ⊥) → list_any (to a) ts ≡ false
+pub not_to : (n : ShapeNumbers) (ts : List Target) (a : ℕ) → All (λ (t : Target). has_thread n t.thread.0 ≡ true) ts → (has_thread n a ≡ true → ⊥) → list_any (to a) ts ≡ false
 not_to n [] a h f = refl
 not_to n (t ∷ ts) a h f = by (eqb t.thread.0 a) refl (h 0 t (omega arith)) (not_to n ts a (λ k d l. h (suc k) d (omega arith)) f) where
   by : (v : Bool) → v ≡ eqb t.thread.0 a → has_thread n t.thread.0 ≡ true → list_any (to a) ts ≡ false → (v || list_any (to a) ts) ≡ false

@@ -86,3 +86,7 @@ stopped (Ok z) e x y ts us k l i g f = absurd i
 pub stopped_count : (r : Result (Option ℕ) RouteStop) (e : RouteStop) (x ts : List Table) → IsErrAnd r (λ z. z ≡ e) → IfOk r (λ _. length x ≡ length ts)
 stopped_count (Err z) e x ts i = tt
 stopped_count (Ok z) e x ts i = absurd i
+
+-- tables that are not full: each is short
+pub short_at : (ts us : List Table) → us ≡ ts → is_full ts ≡ false → (i : ℕ) → length (table_at us i) ≤ 65536
+short_at ts us e h i = subst (λ (xs : List Table). length (table_at xs i) ≤ 65536) (sym e) (full_at ts i h)

@@ -14,3 +14,9 @@ pub mod Records
 pub mod Routing
 pub mod Trees
 pub mod Walks
+pub mod Entries
+pub mod Tallies
+pub mod Bare
+pub mod PinRows
+pub mod Serving
+pub mod Addressed

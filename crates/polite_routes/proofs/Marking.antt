@@ -47,7 +47,7 @@ marked_by ts ms t i false e l h old =
     let j : i ≢ t.thread.0 / 64 = grind (arith, nat_tests) in
     get_or-set_other ms (t.thread.0 / 64) i (with_bit (get_or ms (t.thread.0 / 64) 0) (t.thread.0 % 64)) 0 j ∙ old
 
-take_one : (ts : List Target) (i : ℕ) → i < length ts → take (i + 1) ts ≡ take i ts ++ get_or ts i no_target ∷ []
+pub take_one : (ts : List Target) (i : ℕ) → i < length ts → take (i + 1) ts ≡ take i ts ++ get_or ts i no_target ∷ []
 take_one ts i h = grind (arith, common_steps)
 
 -- the loop's step

@@ -1,8 +1,11 @@
+pub mod Answer
 pub mod Full
 pub mod Hops
+pub mod InEdges
 pub mod Once
 pub mod Pack
 pub mod Passes
+pub mod Pins
 pub mod Routes
 pub mod Straight
 pub mod Targets

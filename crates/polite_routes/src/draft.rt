@@ -1,6 +1,6 @@
 //! Tables while trees are planted.
 
-ghost use Rattle.std.specs.Prelude.{◌≡◌, ◌≤◌, ◌<◌, ◌++◌, ◌∷◌, [], ◌*◌, ◌+◌, ℕ, IsTrue, true, false, IfOk, Err, length, replicate, slice_set};
+ghost use Rattle.std.specs.Prelude.{◌≡◌, ◌≤◌, ◌<◌, ◌++◌, ◌∷◌, [], ◌*◌, ◌+◌, ℕ, IsTrue, true, false, IfOk, Err, length, map, replicate, slice_set};
 ghost use Rattle.std.specs.List.{list_all, list_any};
 ghost use Rattle.tn_base.specs.Parts.{board_count};
 ghost use Rattle.tn_base.specs.Shape.{WithinLimits};
@@ -16,6 +16,7 @@ use tn_base::ids::Board;
 use tn_base::shape::Shape;
 use tn_keys::beat::Beat;
 use tn_keys::record::RouteRec;
+use tn_keys::tables::Tables;
 
 /// The most beats of a board.
 const MOST_BEATS: usize = 65_536;
@@ -137,6 +138,29 @@ impl Draft {
     {
         let place = board_place(shape, board);
         self.boards[place].give(records)
+    }
+}
+
+impl Draft {
+    /// The tables as those of a machine.
+    pub(crate) fn into_tables(self, alloc: Global) -> Result<Tables, AllocError>
+        requires boards { length self ≤ 16 }
+        requires short { is_full self ≡ false }
+        ensures { IfOk result (λ tables. tables ≡ self) }
+    {
+        let boards = self.into_boards(alloc)?;
+        Ok(Tables::of(boards))
+    }
+
+    /// The beats of each board.
+    fn into_boards(self, alloc: Global) -> Result<Vec<Vec<Beat>>, AllocError>
+        ensures { IfOk result (λ boards. map (λ v. v.items) boards.items ≡ self) }
+    {
+        let mut boards = Vec::with_capacity(alloc, self.boards.len())?;
+        for list in self.boards {
+            boards.push(list.beats)?;
+        }
+        Ok(boards)
     }
 }
 

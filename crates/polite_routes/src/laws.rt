@@ -1,10 +1,18 @@
 //! Laws of routes. A law answers nothing: its contract is what it says.
 
-ghost use Rattle.std.specs.Prelude.{◌≡◌, ◌<◌, ℕ, List, length};
+ghost use Rattle.std.specs.Prelude.{◌≡◌, ◌<◌, ℕ, List, Ok, length};
+ghost use Rattle.graph_text.specs.Graph.{IsGraph};
+ghost use Rattle.polite_place.specs.Outs.{outs_of};
+ghost use Rattle.polite_place.specs.Seats.{Seated, placed};
+ghost use Rattle.polite_routes.specs.declared.routes.RouteSet.{RouteSet};
+ghost use Rattle.polite_routes.specs.Answer.{AllServed, KeyedByEdges, routes_of};
 ghost use Rattle.polite_routes.specs.declared.target.Pin.{Pin};
 ghost use Rattle.polite_routes.specs.Passes.{PassesButWidth};
 ghost use Rattle.polite_routes.specs.Routes.{PinRouted, PinsThere, in_lists, key_at, local_of, pin_at, tables_of};
 
+use graph_text::graph::Graph;
+use polite_place::laws::law_seats;
+use polite_place::placement::Placement;
 use tn_base::shape::Shape;
 
 /// Where all pins and the threads to which their edges lead are those of a machine: what the key of a pin reaches, with the
@@ -16,4 +24,22 @@ pub fn law_routes(shape: &Shape)
     ensures passes { (pins : List Pin) → PinsThere shape.now pins → PassesButWidth shape.now (tables_of shape.now pins) }
 {
     let _numbers = shape.numbers();
+}
+
+/// In the routes of a graph with its placement: what the key of each pin reaches, with the in-edge lists, is exactly the pin's
+/// edges, each once, and each branch is straight; exactly the pins without edges have no key; and the tables pass each test but
+/// that of width. The placement has a seat of the machine for each vertex.
+pub fn law_served(shape: &Shape, graph: &Graph, placement: &Placement)
+    requires graph { IsGraph graph.now }
+    requires placement { Ok placement.now ≡ placed shape.now graph.now.per_thread (outs_of graph.now) }
+    ensures served { (set : RouteSet) → Ok set ≡ routes_of shape.now graph.now placement.now → AllServed shape.now graph.now placement.now set }
+    ensures keys { (set : RouteSet) → Ok set ≡ routes_of shape.now graph.now placement.now → KeyedByEdges graph.now set.keys }
+    ensures passes { (set : RouteSet) → Ok set ≡ routes_of shape.now graph.now placement.now → PassesButWidth shape.now set.tables }
+    ensures count { length placement.now ≡ length graph.now.vertices }
+    ensures seated { Seated shape.now graph.now.per_thread placement.now }
+{
+    let _numbers = shape.numbers();
+    let _graph = graph;
+    let _placement = placement;
+    law_seats(shape);
 }

@@ -9,6 +9,7 @@ ghost use Rattle.polite_routes.specs.Routes.{IsPlanting, Lays, PinThere, PinsThe
 ghost use Rattle.polite_routes.specs.Targets.{AllLow, Narrow, count_in, mask_of, one_more, spots_for};
 ghost use Rattle.polite_routes.specs.Tree.{tree};
 
+use crate::counting::count_tree;
 use crate::draft::Draft;
 use crate::spots::{TILES, number};
 use crate::target::{Pin, RouteStop, Target};
@@ -18,7 +19,7 @@ use std::marker::Model;
 use tn_base::shape::Shape;
 
 /// Counts the trees of pins at each tile.
-fn count_all(
+pub(crate) fn count_all(
     alloc: Global,
     shape: &Shape,
     pins: &[Pin],
@@ -31,8 +32,12 @@ fn count_all(
     ensures { IfOk result (λ _. (i : ℕ) → i < 256 → count_in counts.new i ≡ trees_to pins.now i) }
 {
     let _numbers = shape.numbers();
+    let mut list = vec![in alloc; 0u32; TILES]?;
+    let met = list.as_mut_slice();
+    let mut stamp = 0u32;
     for pin in pins {
-        number(alloc, counts, pin.targets.as_slice())?;
+        stamp += 1;
+        count_tree(counts, met, stamp, pin.targets.as_slice());
     }
     Ok(())
 }
@@ -77,7 +82,11 @@ fn plant_pin(
     ensures room { IfOk result (λ _. length counts.new ≡ 256) }
 {
     let _numbers = shape.numbers();
-    let spots = number(alloc, counts, pin.targets.as_slice())?;
+    let targets = pin.targets.as_slice();
+    if targets.is_empty() {
+        return Ok(None);
+    }
+    let spots = number(alloc, counts, targets)?;
     plant_tree(alloc, shape, spots.as_slice(), draft, pin.board)
 }
 
@@ -122,6 +131,15 @@ impl Model for Keys {
     ghost Value = { List (Option ℕ) };
 
     ghost view = { λ k. k.keys.items };
+}
+
+impl Keys {
+    /// The keys in order.
+    pub fn as_slice(&self) -> &[Option<u32>]
+        ensures { result.now ≡ self.now }
+    {
+        self.keys.as_slice()
+    }
 }
 
 /// The tables of the trees of pins, and their keys.

@@ -65,7 +65,7 @@ fn spots_with(alloc: Global, masks: &[u64], counts: &[u32]) -> Result<Vec<Spot>,
     requires counts { length counts.now ≡ 256 }
     ensures { IfOk result (λ spots. spots.items ≡ map (spot_of masks.now (count_in counts.now)) (range_with_len 0 256)) }
 {
-    let mut spots = Vec::new(alloc);
+    let mut spots = Vec::with_capacity(alloc, TILES)?;
     for tile in 0..TILES {
         spots.push(spot_with(masks[tile], counts[tile]))?;
     }

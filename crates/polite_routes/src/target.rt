@@ -62,6 +62,15 @@ pub struct Pin {
     pub targets: TargetList,
 }
 
+impl Pin {
+    /// Appends an edge.
+    pub fn push(&mut self, target: Target) -> Result<(), AllocError>
+        ensures { IfOk result (λ _. self.new ≡ record { board = self.old.board; targets = self.old.targets ++ target ∷ [] }) }
+    {
+        self.targets.push(target)
+    }
+}
+
 /// What a tree brings to a tile: the mask of the threads to which it leads, and the local key there, 0 where it leads to none.
 #[derive(Clone, Copy, PartialEq, Eq, Debug)]
 pub struct Spot {
