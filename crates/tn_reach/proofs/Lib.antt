@@ -1,4 +1,5 @@
 pub mod Boards
+pub mod Chained
 pub mod Finding
 pub mod Rounding
 pub mod Runs

@@ -1,3 +1,4 @@
+pub mod Chains
 pub mod Check
 pub mod Kinds
 pub mod Marks

@@ -6,6 +6,7 @@
 
 pub mod check;
 mod kinds;
+pub mod laws;
 mod measure;
 mod rounds;
 mod running;
