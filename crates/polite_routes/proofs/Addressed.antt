@@ -1,5 +1,5 @@
 -- In-edges by thread, and by address.
-use Rattle.std.proofs.Common.{◌≡◌, ◌≢◌, ◌<◌, ◌≤◌, ℕ, suc, zero, ◌+◌, ◌/◌, eqb, cond, Bool, true, false, ◌||◌, List, [], ◌∷◌, length, get_or, map, refl, sym, ◌∙◌, ap, arith}
+use Rattle.std.proofs.Common.{◌≡◌, ◌≢◌, ◌<◌, ◌≤◌, ℕ, suc, zero, ◌+◌, ◌/◌, eqb, cond, Bool, true, false, List, [], ◌∷◌, length, get_or, map, refl, sym, ◌∙◌, ap, arith}
 use Rattle.std.proofs.lemmas.Bool.Decides.{nat_tests}
 use Rattle.std.proofs.lemmas.Bool.{or_parts}
 use Rattle.std.proofs.lemmas.List.{get_or_past}
@@ -16,7 +16,7 @@ use Rattle.polite_routes.specs.declared.target.Pin.{Pin}
 use Rattle.polite_routes.specs.declared.target.Target.{Target}
 use Rattle.polite_routes.specs.Answer.{lists_in, thread_place}
 use Rattle.polite_routes.specs.Hops.{Hop}
-use Rattle.polite_routes.specs.Once.{EachOnce, Lists}
+use Rattle.polite_routes.specs.Once.{AllFind, EachOnce, Lists}
 use Rattle.polite_routes.specs.Routes.{PinThere, PinsThere, in_edges_of, in_lists, lists_to}
 use Rattle.polite_routes.specs.Targets.{edges_to, reaches}
 use Rattle.polite_routes.proofs.Each.{not_to}
@@ -97,4 +97,9 @@ pub once_same : (new old : Lists) (hops : List Hop) (targets : List Target) (loc
 once_same new old hops targets local e h = record {
   once = λ w. sums_same (λ (q : Hop). sum_by (λ x. w q.receiver x q.local) (new q.receiver q.local)) (λ (q : Hop). sum_by (λ x. w q.receiver x q.local) (old q.receiver q.local)) hops
       (λ (q : Hop). ap (sum_by (λ x. w q.receiver x q.local)) (e q.receiver q.local)) ∙ h.once w;
+}
+
+pub find_same : (new old : Lists) (hops : List Hop) → ((a k : ℕ) → new a k ≡ old a k) → AllFind old hops → AllFind new hops
+find_same new old hops e h = record {
+  found = λ k d l. let q = get_or hops k d in let f = h.found k d l in let s = ap length (e q.receiver q.local) in omega arith;
 }

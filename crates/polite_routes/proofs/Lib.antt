@@ -20,3 +20,4 @@ pub mod Bare
 pub mod PinRows
 pub mod Serving
 pub mod Addressed
+pub mod Finding

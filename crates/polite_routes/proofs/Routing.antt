@@ -24,6 +24,7 @@ use Rattle.polite_routes.specs.Routes.{PinRouted, PinThere, PinsThere, in_lists,
 use Rattle.polite_routes.specs.Targets.{edges_to, mask_of, reaches, spots_for}
 use Rattle.polite_routes.specs.Tree.{tile_index}
 use Rattle.polite_routes.proofs.Each.{each_once, parts}
+use Rattle.polite_routes.proofs.Finding.{all_find}
 use Rattle.polite_routes.proofs.Leading.{Leads, Sound, leads_grows, leads_up}
 use Rattle.polite_routes.proofs.Marking.{no_mask}
 use Rattle.polite_routes.proofs.Marks.{mask_bit, spot_is, to}
@@ -173,6 +174,7 @@ routed n pins j l h m =
       hops = tree_hops n (spots_of pins j) b;
       reached = λ bytes. reach_is n (tables_of n pins) bytes b (key_at n pins j) ∙ lead.gives 64 bytes (omega arith);
       once = each_once n (pin_at pins j).targets (local_of pins j) (in_lists pins) b.x b.y l there.board.0 there.board.1 there.targets (listed pins j m);
+      find = all_find n (pin_at pins j).targets (local_of pins j) (in_lists pins) b.x b.y l there.board.0 there.board.1 (listed pins j m);
       straight = record { straight = (leads_up (depth n) 9 n (tables_of n pins) 4 (Some b) (key_at n pins j) (tree_hops n (spots_of pins j) b) d lead).straight };
     }
 

@@ -8,7 +8,6 @@ use Rattle.std.proofs.lemmas.List.FromFn.{fill_by_all, get_or-map-range_with_len
 use Rattle.std.specs.List.{range_with_len, sum_by}
 use Rattle.tn_base.specs.declared.ids.Board.{Board}
 use Rattle.tn_base.specs.declared.shape.ShapeNumbers.{ShapeNumbers}
-use Rattle.tn_base.specs.Address.{thread_at}
 use Rattle.tn_base.specs.Shape.{WithinLimits, thread_count}
 use Rattle.tn_keys.specs.Tables.{Table}
 use Rattle.graph_text.specs.declared.graph.Graph.{Graph}
@@ -28,10 +27,10 @@ use Rattle.polite_routes.specs.Hops.{Hop, arrives, reach_of}
 use Rattle.polite_routes.specs.Passes.{PassesButWidth}
 use Rattle.polite_routes.specs.Once.{Lists}
 use Rattle.polite_routes.specs.Pins.{board_of, edges_of, pin_place, pins_of, target_of, targets_of}
-use Rattle.polite_routes.specs.Routes.{PinRouted, PinsThere, in_edges_of, in_lists, key_at, keys_full, keys_to, lists_to, local_of, pin_at, planting, tables_after, tables_of}
+use Rattle.polite_routes.specs.Routes.{PinRouted, PinsThere, in_edges_of, in_lists, key_at, keys_full, keys_to, local_of, pin_at, planting, tables_after, tables_of}
 use Rattle.polite_routes.specs.Targets.{spots_for}
 use Rattle.polite_routes.specs.Tree.{Planted, tree}
-use Rattle.polite_routes.proofs.Addressed.{once_same, same_lists}
+use Rattle.polite_routes.proofs.Addressed.{find_same, once_same, same_lists}
 use Rattle.polite_routes.proofs.Bare.{bare_tree}
 use Rattle.polite_routes.proofs.Marking.{no_pin}
 use Rattle.polite_routes.proofs.PinRows.{few_pins, first_pin_at, length_pins}
@@ -103,7 +102,7 @@ routed_pin n g placement v pin l t h f =
     (routed n ps j l t (place_there g placement v pin h f))
 
 routed_in : (n : ShapeNumbers) (tables : List Table) (new old : Lists) (b : Board) (key : Option ℕ) (ts : List Target) (locals : ℕ → ℕ) → ((a k : ℕ) → new a k ≡ old a k) → PinRouted n tables old b key ts locals → PinRouted n tables new b key ts locals
-routed_in n tables new old b key ts locals e r = record { hops = r.hops; reached = r.reached; once = once_same new old r.hops ts locals e r.once; straight = r.straight }
+routed_in n tables new old b key ts locals e r = record { hops = r.hops; reached = r.reached; once = once_same new old r.hops ts locals e r.once; find = find_same new old r.hops e r.find; straight = r.straight }
 
 served_by : (n : ShapeNumbers) (g : Graph) (placement : List Seat) (v pin : ℕ) → WithinLimits n → IsGraph g → PinsThere n (pins_of g placement) → v < length g.vertices → pin < pins_at g v
     → Served n g placement (record { tables = tables_of n (pins_of g placement); keys = keys_of n g (pins_of g placement); in_edges = in_edges_of n (pins_of g placement) }) v pin

@@ -1,5 +1,5 @@
 -- What hops find: each edge once.
-use Rattle.std.specs.Prelude.{ℕ, ◌≡◌, ◌/◌, true, List}
+use Rattle.std.specs.Prelude.{ℕ, ◌≡◌, ◌<◌, ◌/◌, true, List, length}
 use Rattle.std.specs.List.{All, sum_by}
 use Rattle.tn_base.specs.declared.shape.ShapeNumbers.{ShapeNumbers}
 use Rattle.tn_base.specs.Address.{has_thread}
@@ -17,6 +17,10 @@ Lists = ℕ → ℕ → List InEdge
 pub record EachOnce (lists : Lists) (hops : List Hop) (targets : List Target) (local : ℕ → ℕ) : Type 0 where
   pub once : (weight : ℕ → InEdge → ℕ → ℕ) →
       sum_by (λ h. sum_by (λ e. weight h.receiver e h.local) (lists h.receiver h.local)) hops ≡ sum_by (λ t. weight t.thread.0 t.edge (local (t.thread.0 / 64))) targets
+
+-- each hop finds an edge
+pub record AllFind (lists : Lists) (hops : List Hop) : Type 0 where
+  pub found : All (λ h. 0 < length (lists h.receiver h.local)) hops
 
 -- each edge leads to a thread of the machine
 pub record AllThere (n : ShapeNumbers) (targets : List Target) : Type 0 where

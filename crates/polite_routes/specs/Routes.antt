@@ -20,7 +20,7 @@ use Rattle.polite_routes.specs.declared.target.RouteStop.{RouteStop}
 use Rattle.polite_routes.specs.declared.target.RouteStop.TheVariants.{KeysFull, Memory, TableFull}
 use Rattle.polite_routes.specs.Full.{is_full}
 use Rattle.polite_routes.specs.Hops.{Hop, arrives, reach_of}
-use Rattle.polite_routes.specs.Once.{AllThere, EachOnce, Lists}
+use Rattle.polite_routes.specs.Once.{AllFind, AllThere, EachOnce, Lists}
 use Rattle.polite_routes.specs.Straight.{StraightFrom}
 use Rattle.polite_routes.specs.Targets.{edges_to, reaches, spots_for}
 use Rattle.polite_routes.specs.Tree.{Planted, tree}
@@ -79,11 +79,13 @@ pub record PinThere (n : ShapeNumbers) (pin : Pin) : Type 0 where
 pub record PinsThere (n : ShapeNumbers) (pins : List Pin) : Type 0 where
   pub each : All (PinThere n) pins
 
--- what the key of a pin reaches, with the in-edge lists, is exactly its edges, each once; and its branches are straight
+-- what the key of a pin reaches, with the in-edge lists, is exactly its edges, each once, and each copy finds an edge; the pin's branches
+-- are straight
 pub record PinRouted (n : ShapeNumbers) (tables : List Table) (lists : Lists) (board : Board) (key : Option ℕ) (targets : List Target) (local : ℕ → ℕ) : Type 0 where
   pub hops : List Hop
   pub reached : (bytes : List ℕ) → reach_of n tables bytes board key ≡ map (arrives bytes) hops
   pub once : EachOnce lists hops targets local
+  pub find : AllFind lists hops
   pub straight : StraightFrom 9 n tables 4 (Some board) key
 
 -- how many trees of pins reach each tile
