@@ -14,6 +14,7 @@ pub mod Receivers
 pub mod Routers
 pub mod Runs
 pub mod Simulate
+pub mod SlotLaw
 pub mod Slots
 pub mod Starts
 pub mod Sums

@@ -6,3 +6,4 @@ pub mod Standing
 pub mod Steps
 pub mod Conserved
 pub mod Law
+pub mod SlotLaw

@@ -2,6 +2,7 @@
 
 ghost use Rattle.tn_letters.specs.Conserved.{EveryRunConserves, EveryRunHands};
 ghost use Rattle.tn_letters.specs.Law.{EveryRunIsBagRun};
+ghost use Rattle.tn_letters.specs.SlotLaw.{EveryEventKeepsSlots, EveryRunKeepsSlots};
 
 /// Each run of a machine from its start is a run of the bag machine: what a thread is handed was sent to it, and a letter
 /// that is neither handed nor dropped is in a named place.
@@ -15,4 +16,12 @@ pub fn law_runs()
 pub fn law_letters()
     ensures conserved { EveryRunConserves }
     ensures handed { EveryRunHands }
+{}
+
+/// A slot keeps its message from the put of the message until the slot is free again. A slot is used if a thread is owed it or
+/// holds it. Each event keeps the bytes and the sender of a used slot, and makes no thread owed the slot that was not owed it.
+/// A run does so too, if the slot is used before each of its events.
+pub fn law_slots()
+    ensures events { EveryEventKeepsSlots }
+    ensures runs { EveryRunKeepsSlots }
 {}
