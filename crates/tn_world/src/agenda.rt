@@ -16,6 +16,9 @@ use tn_link::link::Link;
 /// Marks of at most 320 stops; a machine has at most 273 of them.
 const WORDS: usize = 5;
 
+/// No more links than this number lead to a part.
+const PORTS: u32 = 7;
+
 /// The parts that a link joins.
 #[derive(Clone, Copy)]
 struct Ends {
@@ -67,7 +70,7 @@ pub(crate) struct Agenda {
     marks: [u64; WORDS],
     /// The part in hand, the kind of its next event and the event's number in its kind, and whether an event of the part happened
     /// since the run came to it.
-    at: usize,
+    at: u32,
     stage: Stage,
     next: u32,
     moved: bool,
@@ -100,7 +103,7 @@ impl Agenda {
                 return Some(event);
             }
             if !self.moved {
-                self.unmark(self.at);
+                self.unmark(self.at as usize);
             }
             self.moved = false;
             self.at = self.next_marked()?;
@@ -165,52 +168,57 @@ impl Agenda {
 
     /// The next link with a packet that leads to the part in hand.
     fn arrival<L: Link>(&mut self, world: &World<L>) -> Option<Event> {
-        let stop = self.stops.get(self.at)?;
-        for _ in 0..stop.arrivals.len() {
-            let l = *stop.arrivals.get(self.next as usize)?;
+        for _ in 0..PORTS {
+            let l = self.link_in()?;
             self.next = self.next.wrapping_add(1);
             if world.parts.get(l.0 as usize)?.carries() {
-                return Some(Event::Arrive(l, PartId(self.at as u32)));
+                return Some(Event::Arrive(l, PartId(self.at)));
             }
         }
         None
     }
 
+    /// The next link that leads to the part in hand.
+    fn link_in(&self) -> Option<PartId> {
+        let stop = self.stops.get(self.at as usize)?;
+        stop.arrivals.get(self.next as usize).copied()
+    }
+
     /// The next pending packet of the part in hand.
     fn delivery<L: Link>(&mut self, world: &World<L>) -> Option<Event> {
-        let found = world.parts.get(self.at)?.next_send(self.next)?;
+        let found = world.parts.get(self.at as usize)?.next_send(self.next)?;
         self.next = found.place.wrapping_add(1);
         Some(Event::Deliver(found.thread))
     }
 
     /// The routing of the part in hand, once a visit.
     fn routing<L: Link>(&mut self, world: &World<L>) -> Option<Event> {
-        if self.next != 0 || !world.parts.get(self.at)?.is_router() {
+        if self.next != 0 || !world.parts.get(self.at as usize)?.is_router() {
             return None;
         }
         self.next = 1;
-        Some(Event::Route(PartId(self.at as u32)))
+        Some(Event::Route(PartId(self.at)))
     }
 
     /// The next thread of the part in hand that can make a step.
     fn turn<L: Link>(&mut self, world: &World<L>) -> Option<Event> {
-        let found = world.parts.get(self.at)?.next_ready(self.next)?;
+        let found = world.parts.get(self.at as usize)?.next_ready(self.next)?;
         self.next = found.place.wrapping_add(1);
         Some(Event::Turn(found.thread, 1))
     }
 
     /// The next link that leads away from the part in hand, if a packet waits there for a way out.
     fn departure<L: Link>(&mut self, world: &World<L>) -> Option<Event> {
-        if !world.parts.get(self.at)?.offers() {
+        if !world.parts.get(self.at as usize)?.offers() {
             return None;
         }
         let l = *self
             .stops
-            .get(self.at)?
+            .get(self.at as usize)?
             .departures
             .get(self.next as usize)?;
         self.next = self.next.wrapping_add(1);
-        Some(Event::Depart(PartId(self.at as u32), l))
+        Some(Event::Depart(PartId(self.at), l))
     }
 
     fn ends_at(&self, l: PartId) -> Option<Ends> {
@@ -232,18 +240,18 @@ impl Agenda {
     }
 
     /// The first marked part behind the part in hand, round the list.
-    fn next_marked(&self) -> Option<usize> {
+    fn next_marked(&self) -> Option<u32> {
         let first = self.at.wrapping_add(1);
-        let word = first / 64 % WORDS;
-        let behind = self.marks[word] & (u64::MAX << (first % 64));
+        let word = first / 64 % WORDS as u32;
+        let behind = self.marks[word as usize] & (u64::MAX << (first % 64));
         if behind != 0 {
-            return Some(word * 64 + behind.trailing_zeros() as usize);
+            return Some(word * 64 + behind.trailing_zeros());
         }
-        for k in 1..=WORDS {
-            let word = (word + k) % WORDS;
-            let marks = self.marks[word];
+        for k in 1..=WORDS as u32 {
+            let word = (word + k) % WORDS as u32;
+            let marks = self.marks[word as usize];
             if marks != 0 {
-                return Some(word * 64 + marks.trailing_zeros() as usize);
+                return Some(word * 64 + marks.trailing_zeros());
             }
         }
         None

@@ -3,7 +3,7 @@ use Rattle.tn_base.specs.declared.event.Event.TheVariants as event
 use Rattle.tn_router.specs.Rows.{route_row}
 use Rattle.tn_rows.proofs.Meeting.{some_router}
 use Rattle.tn_rows.specs.Events.{after}
-use Rattle.tn_rows.specs.PartView.{PartView, RouterV}
+use Rattle.tn_rows.specs.PartView.{PartView}
 use Rattle.tn_stamp.specs.declared.entry.Crossing.TheVariants as crossing
 use Rattle.tn_world.specs.Views.{view_of}
 use Rattle.tn_world.proofs.part.Part.can_route.Goals as goal
