@@ -4,7 +4,7 @@ use Rattle.std.specs.List.{slice_get}
 use Rattle.std.specs.Prelude.{OnOk}
 use Rattle.std.specs.declared.result.Result.{Result}
 use Rattle.std.specs.declared.result.Result.TheVariants.{Ok, Err}
-use Rattle.std.proofs.Common.{ℕ, ◌≡◌, Bool, Bor, true, false, refl, sym, ◌∙◌, ap, Option, Some, None, is_some, option_map, unwrap_or}
+use Rattle.std.proofs.Common.{cond, ℕ, ◌≡◌, Bool, Bor, true, false, refl, sym, ◌∙◌, ap, Option, Some, None, is_some, option_map, unwrap_or}
 use Rattle.tn_base.specs.declared.event.Event.{Event}
 use Rattle.tn_base.specs.declared.event.Event.TheVariants as event
 use Rattle.tn_base.specs.declared.ids.PartId.{PartId}

@@ -67,7 +67,7 @@ pub router_read : (part : PartView) (o : Option (Bor RouterView)) → option_cop
 router_read (TileV v) None e = refl
 router_read (TileV v) (Some r) e = cc e
 router_read (RouterV v) None e = cc e
-router_read (RouterV v) (Some r) e = ap (λ (x : Option RouterView). (unwrap_or x v).beats) e
+router_read (RouterV v) (Some r) e = ap (λ (x : Option RouterView). (unwrap_or x v).plan.beats) e
 router_read (LinkV x) None e = refl
 router_read (LinkV x) (Some r) e = cc e
 router_read AbsentV None e = refl

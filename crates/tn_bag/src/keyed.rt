@@ -37,7 +37,7 @@ fn router_of<L: Link>(world: &World<L>, p: u32) -> Option<&Router>
 fn router_at<L: Link>(world: &World<L>, board: Board) -> Option<&Router>
     requires x { board.x < 4 }
     requires y { board.y < 4 }
-    ensures { MatchOption result (table_of world.now.shape (tables_of world.now) board ≡ []) (λ r. r.now.beats ≡ table_of world.now.shape (tables_of world.now) board) }
+    ensures { MatchOption result (table_of world.now.shape (tables_of world.now) board ≡ []) (λ r. r.now.plan.beats ≡ table_of world.now.shape (tables_of world.now) board) }
 {
     let shape = world.shape();
     let numbers = shape.numbers();

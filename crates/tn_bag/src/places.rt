@@ -1,9 +1,10 @@
 //! The named places in which the letters of a machine stand.
 
+ghost use Rattle.std.specs.List.{flat_map};
 ghost use Rattle.std.specs.Prelude.{◌≡◌, ◌<◌, ◌++◌, IfOk, IsTrue, OnOk, MatchOption, length, map, option_copied};
 ghost use Rattle.tn_base.specs.Address.{tile_threads};
 ghost use Rattle.tn_base.specs.Message.{has_packet};
-ghost use Rattle.tn_letters.specs.Standing.{crossing_at, link_standing, owed_standing, part_standing, pending_standing, slots_standing, standing, tile_standing, transit_standing, waiting};
+ghost use Rattle.tn_letters.specs.Standing.{crossing_at, link_standing, owed_standing, part_standing, pending_standing, slots_standing, standing, tile_standing, transit_by, waiting};
 ghost use Rattle.tn_letters.specs.Tiles.{reach_of};
 
 use crate::keyed::{board_of, letters_at, link_board};
@@ -78,7 +79,7 @@ fn push_tile<L: Link>(
     ensures { OnOk result (all.new.items ≡ all.old.items ++ tile_standing (reach_of world.now) p tile.now) }
 {
     push_pending(all, alloc, world, tile)?;
-    push_transit(all, alloc, world, p, tile)?;
+    push_transit(all, alloc, world, p, tile, &PORTS)?;
     push_slots(all, tile)
 }
 
@@ -145,22 +146,37 @@ fn push_pending<L: Link>(
     Ok(())
 }
 
-/// The letters of the packets that go on from a tile.
+/// The letters of the packets that go on from a tile by these ports.
 fn push_transit<L: Link>(
     all: &mut Vec<(Place, Letter)>,
     alloc: Global,
     world: &World<L>,
     p: u32,
     tile: &Tile,
+    ways: &[Port],
 ) -> Result<(), AllocError>
-    ensures { OnOk result (all.new.items ≡ all.old.items ++ transit_standing (reach_of world.now) p tile.now) }
+    ensures { OnOk result (all.new.items ≡ all.old.items ++ flat_map (transit_by (reach_of world.now) p tile.now) ways.now) }
 {
-    tile.kept();
-    for way in &PORTS {
-        let place = Place::Transit(PartId(p), *way);
-        push_packet(all, alloc, world, tile, place, tile.buffer(*way))?;
+    for way in ways {
+        push_buffer(all, alloc, world, p, tile, *way)?;
     }
     Ok(())
+}
+
+/// The letters of the packet that goes on from a tile by a port.
+fn push_buffer<L: Link>(
+    all: &mut Vec<(Place, Letter)>,
+    alloc: Global,
+    world: &World<L>,
+    p: u32,
+    tile: &Tile,
+    way: Port,
+) -> Result<(), AllocError>
+    ensures { OnOk result (all.new.items ≡ all.old.items ++ transit_by (reach_of world.now) p tile.now way) }
+{
+    tile.kept();
+    let place = Place::Transit(PartId(p), way);
+    push_packet(all, alloc, world, tile, place, tile.buffer(way))
 }
 
 /// The letters of a packet that waits at a place.

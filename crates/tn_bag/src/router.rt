@@ -1,14 +1,14 @@
 //! The letters in a router.
 
+ghost use Rattle.std.specs.List.{flat_map};
 ghost use Rattle.std.specs.Prelude.{◌≡◌, ◌++◌, ◌<◌, false, IfOk, IfSome, IsTrue, OnOk, map, option_map};
 ghost use Rattle.tn_base.specs.Message.{has_packet};
 ghost use Rattle.tn_keys.specs.Copies.{Copy};
 ghost use Rattle.tn_router.specs.Kept.{FitsWork, WellShaped, is_keyed};
 ghost use Rattle.tn_router.specs.Left.{board_on, copies_left, copies_out, copies_to};
-ghost use Rattle.tn_node.specs.PortRows.{at};
 ghost use Rattle.tn_router.specs.Rest.{rest_by};
 ghost use Rattle.tn_letters.specs.Letters.{letter_for};
-ghost use Rattle.tn_letters.specs.Standing.{leaving_by, out_standing, process_standing, router_standing, works_from};
+ghost use Rattle.tn_letters.specs.Standing.{out_by, router_standing, work_by};
 ghost use Rattle.tn_letters.specs.Tiles.{reach_of};
 ghost use Rattle.std.specs.Prelude.{ℕ, List};
 
@@ -38,37 +38,39 @@ pub(crate) fn push_router<L: Link>(
 ) -> Result<(), AllocError>
     ensures { OnOk result (all.new.items ≡ all.old.items ++ router_standing (reach_of world.now) p router.now) }
 {
-    push_out(all, alloc, world, p, router)?;
-    push_process(all, alloc, world, p, router)
+    push_out(all, alloc, world, p, router, &PORTS)?;
+    push_process(all, alloc, world, p, router, &PORTS)
 }
 
-/// The letters of the packets that wait for a way out.
+/// The letters of the packets that wait for these ways out.
 fn push_out<L: Link>(
     all: &mut Vec<(Place, Letter)>,
     alloc: Global,
     world: &World<L>,
     p: u32,
     router: &Router,
+    ways: &[Port],
 ) -> Result<(), AllocError>
-    ensures { OnOk result (all.new.items ≡ all.old.items ++ out_standing (reach_of world.now) p router.now) }
+    ensures { OnOk result (all.new.items ≡ all.old.items ++ flat_map (out_by (reach_of world.now) p router.now) ways.now) }
 {
-    for way in &PORTS {
+    for way in ways {
         push_leaving(all, alloc, world, p, router, *way)?;
     }
     Ok(())
 }
 
-/// The letters of the packets in process.
+/// The letters of the packets in process that came from these sides.
 fn push_process<L: Link>(
     all: &mut Vec<(Place, Letter)>,
     alloc: Global,
     world: &World<L>,
     p: u32,
     router: &Router,
+    sides: &[Port],
 ) -> Result<(), AllocError>
-    ensures { OnOk result (all.new.items ≡ all.old.items ++ process_standing (reach_of world.now) p router.now) }
+    ensures { OnOk result (all.new.items ≡ all.old.items ++ flat_map (work_by (reach_of world.now) p router.now) sides.now) }
 {
-    for side in &PORTS {
+    for side in sides {
         push_work(all, alloc, world, p, router, *side)?;
     }
     Ok(())
@@ -83,7 +85,7 @@ fn push_leaving<L: Link>(
     router: &Router,
     way: Port,
 ) -> Result<(), AllocError>
-    ensures { OnOk result (all.new.items ≡ all.old.items ++ leaving_by (reach_of world.now) p router.now way (at way router.now.now.node.out)) }
+    ensures { OnOk result (all.new.items ≡ all.old.items ++ out_by (reach_of world.now) p router.now way) }
 {
     router.kept();
     let Some(packet) = router.buffer(way) else {
@@ -102,7 +104,7 @@ fn push_work<L: Link>(
     router: &Router,
     side: Port,
 ) -> Result<(), AllocError>
-    ensures { OnOk result (all.new.items ≡ all.old.items ++ works_from (reach_of world.now) p router.now side (at side router.now.now.inputs)) }
+    ensures { OnOk result (all.new.items ≡ all.old.items ++ work_by (reach_of world.now) p router.now side) }
 {
     router.kept();
     let Some((packet, beat, at)) = router.in_process(side) else {

@@ -44,9 +44,12 @@ pending_standing reach v = each_below (tile_threads v.plan.shape) (pending_of re
 abbrev pub ports : List Port
 ports = port.East ∷ port.West ∷ port.South ∷ port.North ∷ port.Up ∷ port.Down ∷ port.HostPort ∷ port.Here ∷ []
 
--- of the packets that go on from a tile, by way out
+-- of the packet that goes on from a tile by a way out, and of those by all ways
+abbrev pub transit_by : Reach → ℕ → TileView → Port → List (Place × Letter)
+transit_by reach p v way = waiting v.plan.shape reach (place.Transit (record { 0 = p }) way) (waits_for way v.now.node.out)
+
 abbrev pub transit_standing : Reach → ℕ → TileView → List (Place × Letter)
-transit_standing reach p v = flat_map (λ way. waiting v.plan.shape reach (place.Transit (record { 0 = p }) way) (waits_for way v.now.node.out)) ports
+transit_standing reach p v = flat_map (transit_by reach p v) ports
 
 -- in a slot: a letter for the thread at a place, where it is owed the slot and did not take it
 abbrev pub owed_to : TileView → ℕ → ℕ → List (Place × Letter)
@@ -82,9 +85,12 @@ abbrev pub leaving_by : Reach → ℕ → RouterView → Port → Option Packet 
 leaving_by reach p v way None = []
 leaving_by reach p v way (Some k) = copied (place.Transit (record { 0 = p }) way) k (copies_out reach v.plan.shape v.plan.board way k)
 
--- of the packets that wait in a router, by way out
+-- of the packet that waits for a way out, and of those for all ways
+abbrev pub out_by : Reach → ℕ → RouterView → Port → List (Place × Letter)
+out_by reach p v way = leaving_by reach p v way (waits_for way v.now.node.out)
+
 abbrev pub out_standing : Reach → ℕ → RouterView → List (Place × Letter)
-out_standing reach p v = flat_map (λ way. leaving_by reach p v way (waits_for way v.now.node.out)) ports
+out_standing reach p v = flat_map (out_by reach p v) ports
 
 -- of the packet in process that came from a side: the copies still to come, those of its next records or, without a key,
 -- its own
@@ -92,9 +98,12 @@ abbrev pub works_from : Reach → ℕ → RouterView → Port → Option Work �
 works_from reach p v side None = []
 works_from reach p v side (Some w) = copied (place.InProcess (record { 0 = p }) side) w.packet (copies_left reach v.plan.shape v.plan.board v.plan.beats w)
 
--- of the packets in process, by side
+-- of the packet in process that came from a side, and of those from all sides
+abbrev pub work_by : Reach → ℕ → RouterView → Port → List (Place × Letter)
+work_by reach p v side = works_from reach p v side (waits_for side v.now.inputs)
+
 abbrev pub process_standing : Reach → ℕ → RouterView → List (Place × Letter)
-process_standing reach p v = flat_map (λ side. works_from reach p v side (waits_for side v.now.inputs)) ports
+process_standing reach p v = flat_map (work_by reach p v) ports
 
 -- on a router, which has this part's number
 abbrev pub router_standing : Reach → ℕ → RouterView → List (Place × Letter)

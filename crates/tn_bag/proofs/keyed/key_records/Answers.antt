@@ -19,19 +19,19 @@ returns-then-count-eq0 g c =
           let none : c.count-count.result ≡ 0 = search rules in
           bad_none t c.args.key.0 (sym c.count-count.ensures.value ∙ none)
       | then-count-eq0-via-else-count-eq0+then-is_none w ↦
-          past_key t c.in-Some.router.now.beats c.args.key.0 c.first-first.result c.count-count.result w.beat.result same c.first-first.ensures.value c.count-count.ensures.value
+          past_key t c.in-Some.router.now.plan.beats c.args.key.0 c.first-first.result c.count-count.result w.beat.result same c.first-first.ensures.value c.count-count.ensures.value
           (search rules) w.beat.ensures (search rules)
     ])
 
 pub joined_beats-requires : goal.joined_beats-requires
 joined_beats-requires g c =
-    within_key c.in-Some.router.now.beats c.first-first.result c.count-count.result c.beat.result (search rules) c.beat.ensures (search rules)
+    within_key c.in-Some.router.now.plan.beats c.first-first.result c.count-count.result c.beat.result (search rules) c.beat.ensures (search rules)
 
 pub returns : goal.returns
 returns g c =
     let t = table_of c.args.world.now.shape (tables_of c.args.world.now) c.args.board in
     let same = some_table t c.router_at.result c.in-Some.router c.router_at.ensures c.in-Some.is in
     let some : c.count-count.result ≢ 0 = search rules in
-    let within = within_key c.in-Some.router.now.beats c.first-first.result c.count-count.result c.beat.result some c.beat.ensures (search rules) in
+    let within = within_key c.in-Some.router.now.plan.beats c.first-first.result c.count-count.result c.beat.result some c.beat.ensures (search rules) in
     subst (λ xs. IfOk c.joined_beats.result (λ all. all.items ≡ xs))
-    (found_key t c.in-Some.router.now.beats c.args.key.0 c.first-first.result c.count-count.result same c.first-first.ensures.value c.count-count.ensures.value some within) c.joined_beats.ensures
+    (found_key t c.in-Some.router.now.plan.beats c.args.key.0 c.first-first.result c.count-count.result same c.first-first.ensures.value c.count-count.ensures.value some within) c.joined_beats.ensures
