@@ -83,9 +83,9 @@ boards_there n (t ∷ ts) all = (board_there n t (has_board n t) all.0, boards_t
 -- Parts.
 
 fresh_part : (job : Job) (k : Kind) → IsFreshPart (part_start job k)
-fresh_part job (kind.Tile tile) = record { pending = refl; pool = refl; transit = refl; dropped = refl; counter = refl; white = refl; free = refl; going = refl }
+fresh_part job (kind.Tile tile) = record { pending = refl; pool = refl; node = refl; dropped = refl; going = refl }
 fresh_part job kind.Host = tt
-fresh_part job (kind.Router board) = record { process = refl; out = refl; counter = refl; white = refl; free = refl; going = refl }
+fresh_part job (kind.Router board) = record { inputs = refl; node = refl; going = refl }
 fresh_part job (kind.Link from onto) = refl
 fresh_part job kind.Detector = tt
 

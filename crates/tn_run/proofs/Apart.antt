@@ -2,8 +2,8 @@
 use Rattle.std.proofs.Common.{◌≡◌, ℕ, Bool, true, false, ◌||◌, if◌then◌else◌, List, [], ◌∷◌, codes, Option, None, Some, refl, option_map, option_and_then}
 use Rattle.std.specs.Str.{bytes_eq}
 use Rattle.tn_words.specs.declared.command.Command.{Command}
-use Rattle.tn_words.specs.declared.command.Command.TheVariants.{Run, Gen, Asm, Show, Map, Check, Follow, Bsp, Wire}
-use Rattle.tn_words.specs.Forms.{Parted, alone, follow_of, follow_with, gen_among, gen_of, gen_pair, gen_with, named, number_within, parted, run_of, run_with, traced, two_of, wire_of, word_in, workers_in}
+use Rattle.tn_words.specs.declared.command.Command.TheVariants.{Asm, Show, Map, Check, Bsp, Wire}
+use Rattle.tn_words.specs.Forms.{Parted, alone, follow_of, follow_with, gen_among, gen_pair, gen_with, number_within, parted, run_with, traced, two_of, wire_of, word_in, workers_in}
 use Rattle.tn_run.specs.Machine.{machine_in}
 use Rattle.tn_run.specs.Texts.{text_in}
 use Rattle.tn_run.specs.Words.{NoMachine, NoText}

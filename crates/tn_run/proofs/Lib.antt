@@ -1,3 +1,6 @@
 pub mod Apart
+pub mod Blocks
 pub mod Ending
+pub mod Exits
+pub mod Named
 pub mod Plainly

@@ -1,3 +1,4 @@
+pub mod Exits
 pub mod Kept
 pub mod Machine
 pub mod Refusal

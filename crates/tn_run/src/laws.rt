@@ -1,4 +1,5 @@
 //! Laws of the commands.
+ghost use Rattle.tn_run.specs.Exits.{ListsExits};
 ghost use Rattle.tn_run.specs.Texts.{EndsPlainly};
 ghost use Rattle.tn_run.specs.Words.{NoMachine, NoText};
 
@@ -11,4 +12,10 @@ pub fn law_words()
 /// A command on texts never ends with the status of a machine that did not end well.
 pub fn law_text_status()
     ensures { EndsPlainly }
+{}
+
+/// A report has a line for each thread of the machine that ended, once, by ascending address: `tn_base::laws::law_threads` says how the
+/// addresses are ordered.
+pub fn law_exits()
+    ensures { ListsExits }
 {}

@@ -1,4 +1,3 @@
-use Rattle.std.proofs.Common.{refl}
 use Rattle.tn_run.proofs.machine.run.Goals as goal
 
 pub law_flight-requires-clause-run : goal.law_flight-requires-clause-run
