@@ -1,5 +1,5 @@
 -- The trees of pins, one after another, as they are planted.
-use Rattle.std.proofs.Common.{◌≡◌, ◌<◌, ◌≤◌, ℕ, suc, zero, ◌+◌, ◌^◌, ◌-◌, eqb, ltb, cond, Bool, true, false, ◌||◌, List, [], ◌∷◌, ◌++◌, length, get_or, map, take, replicate, refl, sym, ◌∙◌, ap, arith, Option, Result, Ok, Err, subst}
+use Rattle.std.proofs.Common.{◌≡◌, ◌<◌, ◌≤◌, ℕ, suc, zero, ◌+◌, ◌-◌, eqb, ltb, cond, Bool, true, false, ◌||◌, List, [], ◌∷◌, ◌++◌, length, get_or, map, take, replicate, refl, sym, ◌∙◌, ap, arith, Option, Result, Ok, Err, subst}
 use Rattle.std.proofs.lemmas.Bool.Decides.{nat_tests}
 use Rattle.std.proofs.lemmas.Bool.{ltb-false, or_parts}
 use Rattle.std.proofs.lemmas.Grind.{common_steps}
@@ -21,15 +21,8 @@ use Rattle.polite_routes.specs.Routes.{IsPlanting, Lays, PinThere, PinsThere, ke
 use Rattle.polite_routes.specs.Targets.{Narrow, count_in, mask_of, one_more, reaches, spot, spot_at, spot_for, spots_for}
 use Rattle.polite_routes.specs.Tree.{Planted, tree}
 use Rattle.polite_routes.proofs.Growing.{full_tree}
-use Rattle.polite_routes.proofs.Marking.{counted, mask_reached, no_pin, pins_one, trees_few, trees_push}
+use Rattle.polite_routes.proofs.Marking.{counted, mask_reached, no_pin, pins_one, trees_push}
 use Rattle.polite_routes.proofs.Marks.{length_spots, spot_is}
-
--- counts that are small
-pub few_counts : (counts : List ℕ) (ps : List Pin) → length counts ≡ 256 → ((i : ℕ) → i < 256 → count_in counts i ≡ trees_to ps i) → length ps ≤ 262144 → (i : ℕ) → count_in counts i < 2 ^ 31
-few_counts counts ps l h m i = by (ltb i 256) refl where
-  by : (v : Bool) → v ≡ ltb i 256 → count_in counts i < 2 ^ 31
-  by true e = let lt : i < 256 = grind (arith, nat_tests) in let c = h i lt in let t = trees_few ps i in omega arith
-  by false e = let ge : 256 ≤ i = grind (arith, nat_tests) in let z = get_or_past counts i 0 (omega arith) in omega arith
 
 pub taken_few : (ps : List Pin) (j : ℕ) → length ps ≤ 262144 → length (take j ps) ≤ 262144
 taken_few ps j h = let l : length (take j ps) ≤ length ps = grind (arith, common_steps) in omega arith

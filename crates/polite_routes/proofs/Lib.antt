@@ -21,3 +21,4 @@ pub mod PinRows
 pub mod Serving
 pub mod Addressed
 pub mod Finding
+pub mod Spotting

@@ -1,64 +1,25 @@
 -- Masks and counts, edge by edge and tree by tree.
-use Rattle.std.proofs.Common.{◌≡◌, ◌≢◌, ◌<◌, ◌≤◌, ℕ, ◌+◌, ◌*◌, ◌/◌, ◌%◌, eqb, cond, Bool, true, false, ◌||◌, List, [], ◌∷◌, ◌++◌, length, get_or, set, map, take, replicate, refl, sym, ◌∙◌, ap, arith, length-set}
+use Rattle.std.proofs.Common.{◌≡◌, ◌<◌, ◌≤◌, ℕ, ◌+◌, ◌*◌, ◌/◌, ◌%◌, eqb, cond, Bool, true, false, ◌||◌, List, [], ◌∷◌, ◌++◌, length, get_or, take, refl, sym, ◌∙◌, ap, arith}
 use Rattle.std.proofs.lemmas.Bool.Decides.{nat_tests}
 use Rattle.std.proofs.lemmas.Bool.{or_parts}
 use Rattle.std.proofs.lemmas.Grind.{common_steps}
-use Rattle.std.proofs.lemmas.List.{get_or-replicate, get_or-set_other, get_or-set_same, length-replicate}
-use Rattle.std.proofs.lemmas.List.FromFn.{fill_by_all, get_or-map-range_with_len, length-map-range_with_len}
-use Rattle.std.specs.List.{list_any, range_with_len}
+use Rattle.std.specs.List.{list_any}
 use Rattle.tn_base.specs.Mask.{with_bit}
 use Rattle.polite_routes.specs.declared.target.Pin.{Pin}
 use Rattle.polite_routes.specs.declared.target.Target.{Target}
 use Rattle.polite_routes.specs.Routes.{trees_to}
-use Rattle.polite_routes.specs.Targets.{AllLow, leads_to, mask_of, mask_with, masks_for, one_more, reaches, spot, spot_for, spot_of, spots_for}
+use Rattle.polite_routes.specs.Targets.{AllLow, leads_to, mask_of, mask_with, one_more, reaches}
 use Rattle.polite_routes.proofs.Marks.{no_bits, to}
 
 abbrev pub no_target : Target
 no_target = record { thread = record { 0 = 0 }; edge = record { device = 0; value = 0; edge = 0 } }
 
-mask_push : (ts : List Target) (t : Target) (m i : ℕ) → mask_with m (ts ++ t ∷ []) i ≡ cond (leads_to i t) (with_bit (mask_with m ts i) (t.thread.0 % 64)) (mask_with m ts i)
+pub mask_push : (ts : List Target) (t : Target) (m i : ℕ) → mask_with m (ts ++ t ∷ []) i ≡ cond (leads_to i t) (with_bit (mask_with m ts i) (t.thread.0 % 64)) (mask_with m ts i)
 mask_push [] t m i = refl
 mask_push (s ∷ ts) t m i = mask_push ts t (cond (leads_to i s) (with_bit m (s.thread.0 % 64)) m) i
 
-pub mask_at : (ts : List Target) (i : ℕ) → i < 256 → get_or (masks_for ts) i 0 ≡ mask_of ts i
-unfolding masks_for
-mask_at ts i h = get_or-map-range_with_len (mask_of ts) 0 256 i i 0 h (omega arith)
-
-pub length_masks : (ts : List Target) → length (masks_for ts) ≡ 256
-unfolding masks_for
-length_masks ts = length-map-range_with_len (mask_of ts) 0 256
-
-masks_are : (ts : List Target) (ms : List ℕ) → length ms ≡ 256 → ((i : ℕ) → i < 256 → get_or ms i 0 ≡ mask_of ts i) → ms ≡ masks_for ts
-unfolding masks_for
-masks_are ts ms l h = fill_by_all (mask_of ts) ms 256 0 l h
-
-pub masks_none : (ms : List ℕ) → ms ≡ replicate 256 0 → ms ≡ masks_for []
-masks_none ms e = masks_are [] ms (ap length e ∙ length-replicate {A = ℕ} 256 0) (λ i h. ap (λ xs. get_or xs i 0) e ∙ get_or-replicate 256 i 0 0 h)
-
-marked_by : (ts : List Target) (ms : List ℕ) (t : Target) (i : ℕ) (v : Bool) → v ≡ eqb (t.thread.0 / 64) i → length ms ≡ 256 → i < 256 → get_or ms i 0 ≡ mask_of ts i
-    → get_or (set ms (t.thread.0 / 64) (with_bit (get_or ms (t.thread.0 / 64) 0) (t.thread.0 % 64))) i 0 ≡ cond v (with_bit (mask_of ts i) (t.thread.0 % 64)) (mask_of ts i)
-marked_by ts ms t i true e l h old =
-    let j : t.thread.0 / 64 ≡ i = grind (arith, nat_tests) in
-    let k : t.thread.0 / 64 < length ms = omega arith in
-    ap (λ p. get_or (set ms (t.thread.0 / 64) (with_bit (get_or ms (t.thread.0 / 64) 0) (t.thread.0 % 64))) p 0) (sym j)
-    ∙ get_or-set_same ms (t.thread.0 / 64) (with_bit (get_or ms (t.thread.0 / 64) 0) (t.thread.0 % 64)) 0 k
-    ∙ ap (λ p. with_bit (get_or ms p 0) (t.thread.0 % 64)) j ∙ ap (λ m. with_bit m (t.thread.0 % 64)) old
-marked_by ts ms t i false e l h old =
-    let j : i ≢ t.thread.0 / 64 = grind (arith, nat_tests) in
-    get_or-set_other ms (t.thread.0 / 64) i (with_bit (get_or ms (t.thread.0 / 64) 0) (t.thread.0 % 64)) 0 j ∙ old
-
 pub take_one : (ts : List Target) (i : ℕ) → i < length ts → take (i + 1) ts ≡ take i ts ++ get_or ts i no_target ∷ []
 take_one ts i h = grind (arith, common_steps)
-
--- the loop's step
-pub marked : (ts : List Target) (j : ℕ) (ms : List ℕ) (t : Target) (m : ℕ) → j < length ts → t ≡ get_or ts j no_target → ms ≡ masks_for (take j ts) → m ≡ with_bit (get_or ms (t.thread.0 / 64) 0) (t.thread.0 % 64)
-    → set ms (t.thread.0 / 64) m ≡ masks_for (take (j + 1) ts)
-marked ts j ms t m h is e f =
-    let l : length ms ≡ 256 = ap length e ∙ length_masks (take j ts) in
-    ap (set ms (t.thread.0 / 64)) f
-    ∙ masks_are (take j ts ++ t ∷ []) (set ms (t.thread.0 / 64) (with_bit (get_or ms (t.thread.0 / 64) 0) (t.thread.0 % 64))) (length-set ms (t.thread.0 / 64) (with_bit (get_or ms (t.thread.0 / 64) 0) (t.thread.0 % 64)) ∙ l)
-    (λ i q. marked_by (take j ts) ms t i (eqb (t.thread.0 / 64) i) refl l q (ap (λ xs. get_or xs i 0) e ∙ mask_at (take j ts) i q) ∙ sym (mask_push (take j ts) t 0 i))
-    ∙ ap masks_for (ap (λ x. take j ts ++ x ∷ []) is ∙ sym (take_one ts j h))
 
 pub low_tile : (ts : List Target) (j : ℕ) → AllLow ts → j < length ts → (get_or ts j no_target).thread.0 / 64 < 256
 low_tile ts j a h = let l = a.low j no_target h in omega arith
@@ -69,16 +30,6 @@ no_mask [] m i h = refl
 no_mask (t ∷ ts) m i h =
     let p = or_parts (leads_to i t) (reaches ts i) h in
     ap (λ b. mask_with (cond b (with_bit m (t.thread.0 % 64)) m) ts i) p.0 ∙ no_mask ts m i p.1
-
--- the spots of the masks of edges
-spot_same : (ts : List Target) (earlier : ℕ → ℕ) (i : ℕ) → i < 256 → spot_of (masks_for ts) earlier i ≡ spot_for ts earlier i
-spot_same ts earlier i h = ap (λ m. spot m (cond (eqb m 0) 0 (earlier i))) (mask_at ts i h)
-
-pub spots_are : (ts : List Target) (earlier : ℕ → ℕ) (ms : List ℕ) → ms ≡ masks_for ts → map (spot_of ms earlier) (range_with_len 0 256) ≡ spots_for ts earlier
-unfolding spots_for
-spots_are ts earlier ms e =
-    fill_by_all (spot_for ts earlier) (map (spot_of ms earlier) (range_with_len 0 256)) 256 (spot 0 0) (length-map-range_with_len (spot_of ms earlier) 0 256)
-    (λ i h. get_or-map-range_with_len (spot_of ms earlier) 0 256 i i (spot 0 0) h (omega arith) ∙ ap (λ xs. spot_of xs earlier i) e ∙ spot_same ts earlier i h)
 
 -- a tile has a mask exactly where an edge leads to it
 masked : (ts : List Target) (i : ℕ) → reaches ts i ≡ true → (a : ℕ) × (a / 64 ≡ i) × (list_any (to a) ts ≡ true)
@@ -91,7 +42,7 @@ masked (t ∷ ts) i r = by (eqb (t.thread.0 / 64) i) refl r (masked ts i) where
     any true = refl
     any false = refl
 
-mask_some : (ts : List Target) (i : ℕ) (v : Bool) → v ≡ eqb (mask_of ts i) 0 → reaches ts i ≡ true → v ≡ false
+pub mask_some : (ts : List Target) (i : ℕ) (v : Bool) → v ≡ eqb (mask_of ts i) 0 → reaches ts i ≡ true → v ≡ false
 mask_some ts i false e r = refl
 mask_some ts i true e r =
     let g = masked ts i r in

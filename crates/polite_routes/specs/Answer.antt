@@ -59,16 +59,16 @@ pin_key keys v pin = slice_index_or (slice_index_or keys v []) pin None
 pub record KeyedByEdges (graph : Graph) (keys : List (List (Option ℕ))) : Type 0 where
   pub none : (v pin : ℕ) → v < length graph.vertices → pin < pins_at graph v → (pin_key keys v pin ≡ None) ↔ (edges_of graph.edges v pin ≡ [])
 
--- the place of a thread among all threads by ascending address; where the machine has no such thread, the number of its threads
+-- the place of a thread among all threads by ascending address; if the machine has no such thread, the number of its threads
 abbrev pub thread_place : ShapeNumbers → ℕ → ℕ
 thread_place n a = place_in (map (thread_at n) (range_with_len 0 (thread_count n))) a
 
--- the in-edges of a thread of this address at a local key, where in-edges are by thread and local key. An address of no thread has none
+-- the in-edges of the thread of an address at a local key, out of in-edges by thread and local key. An address of no thread has none
 abbrev pub lists_in : ShapeNumbers → List (List (List InEdge)) → Lists
 lists_in n in_edges a local = slice_index_or (slice_index_or in_edges (thread_place n a) []) local []
 
--- what the key of a vertex's pin reaches, with the in-edge lists, is exactly the pin's edges, each once; and its branches are straight.
--- `locals` has the local key by tile
+-- what the key of a vertex's pin reaches, with the in-edge lists, is exactly the pin's edges, each once; the branches of the pin's tree
+-- are straight. `locals` has the local keys of the tree by tile
 pub record Served (n : ShapeNumbers) (graph : Graph) (placement : List Seat) (set : RouteSet) (v pin : ℕ) : Type 0 where
   pub locals : ℕ → ℕ
   pub routed : PinRouted n set.tables (lists_in n set.in_edges) (board_of (seat_of placement v).thread.0) (pin_key set.keys v pin) (targets_of graph.edges placement v pin) locals

@@ -8,7 +8,7 @@ use Rattle.tn_keys.specs.Copies.{Copy, copy_to, keyed, led, onto}
 use Rattle.tn_keys.specs.Reach.{reach, reach_by}
 use Rattle.tn_keys.specs.Tables.{Table}
 
--- a thread that a key reaches, and the local key that stands over the first two bytes there
+-- a thread that a key reaches, and the local key that is written over the first two bytes there
 pub record Hop : Type 0 where
   pub receiver : ℕ
   pub local : ℕ
@@ -20,7 +20,7 @@ hop receiver local = record { receiver = receiver; local = local }
 abbrev pub arrives : List ℕ → Hop → Copy
 arrives bytes h = copy_to h.receiver (keyed 2 h.local bytes)
 
--- the copies over at most so many keys, and all copies, where there is a key
+-- the copies over at most so many keys, and all copies; without a key there are none
 abbrev pub reach_from : ℕ → ShapeNumbers → List Table → List ℕ → Option Board → Option ℕ → List Copy
 reach_from keys n tables bytes at None = []
 reach_from keys n tables bytes at (Some key) = led (reach_by keys n tables bytes) (onto key at)

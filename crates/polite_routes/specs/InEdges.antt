@@ -5,7 +5,7 @@ use Rattle.tn_base.specs.Address.{thread_at}
 use Rattle.tn_base.specs.Shape.{thread_count}
 use Rattle.polite_switch.specs.declared.device.InEdge.{InEdge}
 
--- the in-edges of a thread at a local key, where lists are by thread and local key
+-- the in-edges of a thread at a local key, out of lists by thread and local key
 abbrev pub edges_in : List (List (List InEdge)) → ℕ → ℕ → List InEdge
 edges_in lists i local = slice_index_or (slice_index_or lists i []) local []
 

@@ -25,7 +25,7 @@ with_records n b rs ts = slice_set ts (board_place n b) (table_of n ts b ++ pack
 abbrev pub key_of : ℕ → ℕ → ℕ
 key_of first count = first * 256 + count
 
--- the key that records get behind a table, where there are any
+-- the key that records get behind a table, if there are records
 abbrev pub key_in : Table → List RouteRec → Option ℕ
 key_in table [] = None
 key_in table (r ∷ rs) = Some (key_of (length table) (length (pack (r ∷ rs))))

@@ -42,6 +42,6 @@ abbrev pub StraightOf : ℕ → ShapeNumbers → List Table → ℕ → Option B
 StraightOf most n tables last at None = Unit {0}
 StraightOf most n tables last at (Some key) = At (λ b. Straight most n tables last b key) at
 
--- the branches from a key, where there is one
+-- the branches from a key, if there is a key
 pub record StraightFrom (most : ℕ) (n : ShapeNumbers) (tables : List Table) (last : ℕ) (at : Option Board) (key : Option ℕ) : Type 0 where
   pub straight : StraightOf most n tables last at key

@@ -44,9 +44,10 @@ pub record Narrow (spots : List Spot) : Type 0 where
   pub all : length spots ≡ 256
   pub each : (i : ℕ) → (spot_at spots i).local < 65536
 
--- the masks of all tiles that a machine may have, by address
-unfoldable pub masks_for : List Target → List ℕ
-masks_for ts = map (mask_of ts) (range_with_len 0 256)
+-- there are spots for all tiles, and none has a thread
+pub record Blank (spots : List Spot) : Type 0 where
+  pub all : length spots ≡ 256
+  pub blank : (i : ℕ) → spot_at spots i ≡ spot 0 0
 
 -- each edge leads to an address that a machine may have
 pub record AllLow (ts : List Target) : Type 0 where
@@ -55,10 +56,6 @@ pub record AllLow (ts : List Target) : Type 0 where
 abbrev pub count_in : List ℕ → ℕ → ℕ
 count_in counts i = slice_index_or counts i 0
 
--- the spots of tiles with these masks
-abbrev pub spot_of : List ℕ → (ℕ → ℕ) → ℕ → Spot
-spot_of masks earlier i = spot (count_in masks i) (if count_in masks i == 0 then 0 else earlier i)
-
--- one more where there is a mask
+-- one more if the mask has a thread
 abbrev pub one_more : ℕ → ℕ → ℕ
 one_more mask count = if mask == 0 then count else count + 1

@@ -39,7 +39,7 @@ rrs (c ∷ cs) = rr c.dir c.key ++ rrs cs
 abbrev pub tree_records : List Spot → Board → List Child → List RouteRec
 tree_records spots b children = mrms spots b 16 ++ rrs children
 
--- tables, and the key of a board in them, where the tree comes there
+-- tables, and the key of a board in them, if the tree comes to the board
 pub record Planted : Type 0 where
   pub tables : List Table
   pub key : Option ℕ

@@ -15,9 +15,9 @@ use polite_place::laws::law_seats;
 use polite_place::placement::Placement;
 use tn_base::shape::Shape;
 
-/// Where all pins and the threads to which their edges lead are those of a machine: what the key of a pin reaches, with the
-/// in-edge lists, is exactly the pin's edges, each once; along each branch of its tree East or West comes before South or North,
-/// in one direction each; and the tables pass each test but that of width.
+/// If all pins and the threads to which their edges lead are those of a machine: what the key of a pin reaches, with the
+/// in-edge lists, is exactly the pin's edges, each once, and each copy finds an edge; along each branch of its tree East or West
+/// comes before South or North, in one direction each; and the tables pass each test but that of width.
 pub fn law_routes(shape: &Shape)
     ensures routed { (pins : List Pin) (j : ℕ) → PinsThere shape.now pins → j < length pins →
         PinRouted shape.now (tables_of shape.now pins) (in_lists pins) (pin_at pins j).board (key_at shape.now pins j) (pin_at pins j).targets (local_of pins j) }
@@ -27,8 +27,8 @@ pub fn law_routes(shape: &Shape)
 }
 
 /// In the routes of a graph with its placement: what the key of each pin reaches, with the in-edge lists, is exactly the pin's
-/// edges, each once, and each branch is straight; exactly the pins without edges have no key; and the tables pass each test but
-/// that of width. The placement has a seat of the machine for each vertex.
+/// edges, each once; each copy finds an edge, and each branch is straight; exactly the pins without edges have no key; and the
+/// tables pass each test but that of width. The placement has a seat of the machine for each vertex.
 pub fn law_served(shape: &Shape, graph: &Graph, placement: &Placement)
     requires graph { IsGraph graph.now }
     requires placement { Ok placement.now ≡ placed shape.now graph.now.per_thread (outs_of graph.now) }

@@ -6,13 +6,13 @@ ghost use Rattle.tn_base.specs.Parts.{board_count};
 ghost use Rattle.tn_base.specs.Shape.{WithinLimits};
 ghost use Rattle.polite_routes.specs.Full.{Gives, is_full};
 ghost use Rattle.polite_routes.specs.Routes.{IsPlanting, Lays, PinThere, PinsThere, key_at, keys_full, keys_to, local_of, pin_at, planting, spots_of, tables_after, tables_of, tree_of, trees_to};
-ghost use Rattle.polite_routes.specs.Targets.{AllLow, Narrow, count_in, mask_of, one_more, spots_for};
+ghost use Rattle.polite_routes.specs.Targets.{AllLow, Blank, Narrow, count_in, mask_of, one_more, spot, spots_for};
 ghost use Rattle.polite_routes.specs.Tree.{tree};
 
 use crate::counting::count_tree;
 use crate::draft::Draft;
-use crate::spots::{TILES, number};
-use crate::target::{Pin, RouteStop, Target};
+use crate::spots::{BLANK, TILES, clear, mark};
+use crate::target::{Pin, RouteStop, Spot, Target};
 use crate::tree::plant_tree;
 use std::alloc::{AllocError, Global};
 use std::marker::Model;
@@ -61,18 +61,20 @@ fn keys_full(alloc: Global, shape: &Shape, pins: &[Pin]) -> Result<bool, AllocEr
     Ok(has_full(counts))
 }
 
-/// Plants the tree of a pin, and answers its key. The counts say how many earlier trees reach each tile, and count this one
-/// too.
+/// Plants the tree of a pin, and answers its key. The counts say how many earlier trees reach each tile, and count this tree
+/// too. The spots have no thread before and after. The work grows with the edges and the boards.
 fn plant_pin(
     alloc: Global,
     shape: &Shape,
     pin: &Pin,
     counts: &mut [u32],
+    spots: &mut [Spot],
     draft: &mut Draft,
 ) -> Result<Option<u32>, RouteStop>
     requires there { PinThere shape.now pin.now }
     requires room { length counts.old ≡ 256 }
-    requires few { (i : ℕ) → count_in counts.old i < 2 ^ 31 }
+    requires few { (i : ℕ) → count_in counts.old i < 2 ^ 30 }
+    requires blank { Blank spots.old }
     requires narrow { Narrow (spots_for pin.now.targets (count_in counts.old)) }
     requires boards { length draft.old ≡ board_count shape.now }
     requires short { is_full draft.old ≡ false }
@@ -80,14 +82,17 @@ fn plant_pin(
     ensures boards { IfOk result (λ _. length draft.new ≡ length draft.old) }
     ensures counts { IfOk result (λ _. (i : ℕ) → i < 256 → count_in counts.new i ≡ one_more (mask_of pin.now.targets i) (count_in counts.old i)) }
     ensures room { IfOk result (λ _. length counts.new ≡ 256) }
+    ensures blank { IfOk result (λ _. Blank spots.new) }
 {
     let _numbers = shape.numbers();
     let targets = pin.targets.as_slice();
     if targets.is_empty() {
         return Ok(None);
     }
-    let spots = number(alloc, counts, targets)?;
-    plant_tree(alloc, shape, spots.as_slice(), draft, pin.board)
+    mark(spots, counts, targets);
+    let key = plant_tree(alloc, shape, spots, draft, pin.board)?;
+    clear(spots, counts, targets);
+    Ok(key)
 }
 
 /// Plants the trees of pins, and appends their keys.
@@ -96,6 +101,7 @@ fn plant_all(
     shape: &Shape,
     pins: &[Pin],
     counts: &mut [u32],
+    spots: &mut [Spot],
     draft: &mut Draft,
     keys: &mut Vec<Option<u32>>,
 ) -> Result<(), RouteStop>
@@ -104,13 +110,14 @@ fn plant_all(
     requires free { keys_full pins.now ≡ false }
     requires room { length counts.old ≡ 256 }
     requires none { counts.old ≡ replicate 256 0 }
+    requires blank { spots.old ≡ replicate 256 (spot 0 0) }
     requires bare { draft.old ≡ replicate (board_count shape.now) [] }
     requires no_keys { keys.old.items ≡ [] }
     ensures { Lays result draft.new keys.new.items (tables_of shape.now pins.now) (keys_to shape.now pins.now (length pins.now)) }
 {
     let _numbers = shape.numbers();
     for pin in pins {
-        let key = plant_pin(alloc, shape, pin, counts, draft)?;
+        let key = plant_pin(alloc, shape, pin, counts, spots, draft)?;
         let Ok(()) = keys.push(key) else {
             return Err(RouteStop::Memory);
         };
@@ -161,12 +168,14 @@ pub fn plant_pins(alloc: Global, shape: &Shape, pins: &[Pin]) -> Result<Planting
     }
     let mut tables = Draft::new(alloc, n.boards_x * n.boards_y)?;
     let mut list = vec![in alloc; 0u32; TILES]?;
-    let mut keys = Vec::new(alloc);
+    let mut spots = vec![in alloc; BLANK; TILES]?;
+    let mut keys = Vec::with_capacity(alloc, pins.len())?;
     plant_all(
         alloc,
         shape,
         pins,
         list.as_mut_slice(),
+        spots.as_mut_slice(),
         &mut tables,
         &mut keys,
     )?;

@@ -7,7 +7,7 @@ ghost use Rattle.tn_base.specs.Shape.{WithinLimits};
 ghost use Rattle.graph_text.specs.Graph.{IsGraph, pins_at};
 ghost use Rattle.polite_place.specs.Outs.{outs_of};
 ghost use Rattle.polite_place.specs.Seats.{Seated, placed};
-ghost use Rattle.polite_routes.specs.Answer.{AllServed, KeyedByEdges, Routes, keys_of, listed_key, routes_by, routes_of, vertex_keys};
+ghost use Rattle.polite_routes.specs.Answer.{AllServed, KeyedByEdges, Routes, keys_of, listed_key, pin_key, routes_by, routes_of, vertex_keys};
 ghost use Rattle.polite_routes.specs.Passes.{PassesButWidth};
 ghost use Rattle.polite_routes.specs.Pins.{pin_place, pins_of};
 ghost use Rattle.polite_routes.specs.Routes.{PinsThere, keys_to};
@@ -63,6 +63,16 @@ pub struct RouteSet {
 }
 
 impl PinKeys {
+    /// The key of a pin, if the pin has edges.
+    pub fn key(&self, pin: u32) -> Option<u32>
+        ensures { result ≡ slice_index_or self.now pin None }
+    {
+        match self.keys.get(pin as usize) {
+            Some(key) => *key,
+            None => None,
+        }
+    }
+
     /// The keys by pin. This takes no memory.
     pub fn into_vec(self) -> Vec<Option<u32>>
         ensures { result.items ≡ self }
@@ -72,6 +82,16 @@ impl PinKeys {
 }
 
 impl VertexKeys {
+    /// The key of a vertex's pin, if the pin has edges.
+    pub fn key(&self, vertex: u32, pin: u32) -> Option<u32>
+        ensures { result ≡ pin_key self.now vertex pin }
+    {
+        match self.vertices.get(vertex as usize) {
+            Some(keys) => keys.key(pin),
+            None => None,
+        }
+    }
+
     /// The keys by vertex. This takes no memory.
     pub fn into_vertices(self) -> Vec<PinKeys>
         ensures { result.items ≡ self }

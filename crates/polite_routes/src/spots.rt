@@ -1,54 +1,43 @@
 //! The spots of trees: masks of the threads to which edges lead, and local keys.
 
-ghost use Rattle.std.specs.Prelude.{◌≡◌, ◌≤◌, ◌<◌, ◌+◌, ◌^◌, ◌==◌, ◌≢◌, ℕ, IfOk, length, map, replicate, slice_index, if◌then◌else◌};
-ghost use Rattle.std.specs.List.{range_with_len};
-ghost use Rattle.polite_routes.specs.declared.target.Pin.{Pin};
-ghost use Rattle.polite_routes.specs.Routes.{counts_of, trees_to};
-ghost use Rattle.polite_routes.specs.Targets.{AllLow, count_in, mask_of, one_more, spot_of, masks_for, spot, spot_for, spots_for};
+ghost use Rattle.std.specs.Prelude.{◌≡◌, ◌<◌, ◌^◌, ◌==◌, ℕ, length, if◌then◌else◌};
+ghost use Rattle.tn_base.specs.Mask.{with_bit};
+ghost use Rattle.polite_routes.specs.Targets.{AllLow, Blank, count_in, mask_of, one_more, spot, spot_at, spot_for, spots_for};
 
-use crate::target::{Pin, Spot, Target};
-use std::alloc::{AllocError, Global};
+use crate::target::{Spot, Target};
 use tn_base::mask::Mask;
 
 /// How many tiles the addresses of threads may name.
 pub(crate) const TILES: usize = 256;
 
-/// Adds the threads to which edges lead to the masks of their tiles.
-fn mark(masks: &mut [u64], targets: &[Target])
-    requires none { masks.old ≡ replicate 256 0 }
+/// The spot of a tile to which no edge leads.
+pub(crate) const BLANK: Spot = Spot { mask: 0, local: 0 };
+
+/// Adds a thread to a mask.
+fn with_thread(mask: u64, thread: u32) -> u64
+    requires { thread < 64 }
+    ensures { result ≡ with_bit mask thread }
+{
+    Mask::of(mask).with(thread).bits()
+}
+
+/// Adds the threads to which edges lead to the spots of their tiles. The counts say how many earlier trees reach each tile.
+pub(crate) fn mark(spots: &mut [Spot], counts: &[u32], targets: &[Target])
+    requires blank { Blank spots.old }
+    requires counts { length counts.now ≡ 256 }
     requires low { AllLow targets.now }
-    ensures { masks.new ≡ masks_for targets.now }
+    ensures { spots.new ≡ spots_for targets.now (count_in counts.now) }
 {
     for target in targets {
         let tile = (target.thread.0 / 64) as usize;
-        masks[tile] = Mask::of(masks[tile]).with(target.thread.0 % 64).bits();
+        spots[tile] = Spot {
+            mask: with_thread(spots[tile].mask, target.thread.0 % 64),
+            local: counts[tile],
+        };
     }
 }
 
-/// The masks of the threads to which edges lead, by tile.
-fn masks_for(alloc: Global, targets: &[Target]) -> Result<Vec<u64>, AllocError>
-    requires { AllLow targets.now }
-    ensures { IfOk result (λ masks. masks.items ≡ masks_for targets.now) }
-{
-    let mut masks = vec![in alloc; 0u64; TILES]?;
-    mark(masks.as_mut_slice(), targets);
-    Ok(masks)
-}
-
-/// A tile's spot, where so many earlier trees reach it.
-fn spot_with(mask: u64, earlier: u32) -> Spot
-    ensures { result ≡ spot mask (if mask == 0 then 0 else earlier) }
-{
-    if mask == 0 {
-        return Spot { mask, local: 0 };
-    }
-    Spot {
-        mask,
-        local: earlier,
-    }
-}
-
-/// One more where a mask has threads.
+/// One more, if a mask has threads.
 fn count_with(mask: u64, count: u32) -> u32
     requires { count < 2 ^ 31 }
     ensures { result ≡ one_more mask count }
@@ -59,45 +48,29 @@ fn count_with(mask: u64, count: u32) -> u32
     count + 1
 }
 
-/// The spots of tiles with these masks, where so many earlier trees reach each.
-fn spots_with(alloc: Global, masks: &[u64], counts: &[u32]) -> Result<Vec<Spot>, AllocError>
-    requires masks { length masks.now ≡ 256 }
-    requires counts { length counts.now ≡ 256 }
-    ensures { IfOk result (λ spots. spots.items ≡ map (spot_of masks.now (count_in counts.now)) (range_with_len 0 256)) }
+/// Counts a tree more at a tile, if its spot has threads, and takes the spot's threads away.
+fn clear_tile(spots: &mut [Spot], counts: &mut [u32], tile: usize)
+    requires spots { length spots.old ≡ 256 }
+    requires counts { length counts.old ≡ 256 }
+    requires tile { tile < 256 }
+    requires few { count_in counts.old tile < 2 ^ 31 }
+    ensures spots { (i : ℕ) → spot_at spots.new i ≡ (if i == tile then spot 0 0 else spot_at spots.old i) }
+    ensures counts { (i : ℕ) → count_in counts.new i ≡ (if i == tile then one_more (spot_at spots.old i).mask (count_in counts.old i) else count_in counts.old i) }
 {
-    let mut spots = Vec::with_capacity(alloc, TILES)?;
-    for tile in 0..TILES {
-        spots.push(spot_with(masks[tile], counts[tile]))?;
-    }
-    Ok(spots)
+    counts[tile] = count_with(spots[tile].mask, counts[tile]);
+    spots[tile] = BLANK;
 }
 
-/// Counts a tree more at each tile with a mask.
-fn count(masks: &[u64], counts: &mut [u32])
-    requires masks { length masks.now ≡ 256 }
-    requires counts { length counts.old ≡ 256 }
-    requires few { (i : ℕ) → count_in counts.old i < 2 ^ 31 }
-    ensures { (i : ℕ) → i < 256 → count_in counts.new i ≡ one_more (count_in masks.now i) (count_in counts.old i) }
-{
-    for tile in 0..TILES {
-        counts[tile] = count_with(masks[tile], counts[tile]);
-    }
-}
-
-/// The spots of the tree with these edges. The counts say how many earlier trees reach each tile, and count this one too.
-pub(crate) fn number(
-    alloc: Global,
-    counts: &mut [u32],
-    targets: &[Target],
-) -> Result<Vec<Spot>, AllocError>
-    requires counts { length counts.old ≡ 256 }
-    requires few { (i : ℕ) → count_in counts.old i < 2 ^ 31 }
+/// Counts a tree more at each tile to which an edge leads, and takes the threads of the edges away from the spots.
+pub(crate) fn clear(spots: &mut [Spot], counts: &mut [u32], targets: &[Target])
     requires low { AllLow targets.now }
-    ensures spots { IfOk result (λ spots. spots.items ≡ spots_for targets.now (count_in counts.old)) }
-    ensures counts { IfOk result (λ _. (i : ℕ) → i < 256 → count_in counts.new i ≡ one_more (mask_of targets.now i) (count_in counts.old i)) }
+    requires counts { length counts.old ≡ 256 }
+    requires few { (i : ℕ) → count_in counts.old i < 2 ^ 30 }
+    requires marked { spots.old ≡ spots_for targets.now (count_in counts.old) }
+    ensures blank { Blank spots.new }
+    ensures counts { (i : ℕ) → i < 256 → count_in counts.new i ≡ one_more (mask_of targets.now i) (count_in counts.old i) }
 {
-    let masks = masks_for(alloc, targets)?;
-    let spots = spots_with(alloc, masks.as_slice(), counts)?;
-    count(masks.as_slice(), counts);
-    Ok(spots)
+    for target in targets {
+        clear_tile(spots, counts, (target.thread.0 / 64) as usize);
+    }
 }

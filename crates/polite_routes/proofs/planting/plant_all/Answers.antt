@@ -3,7 +3,9 @@ use Rattle.std.proofs.lemmas.List.{length-replicate}
 use Rattle.tn_base.specs.Parts.{board_count}
 use Rattle.polite_routes.specs.Full.{is_full}
 use Rattle.polite_routes.specs.Tree.{Planted}
-use Rattle.polite_routes.proofs.InTurn.{Next, bare_short, bare_tables, few_counts, full_end, item_is, item_there, laid_stop, narrow_spots, next_pin, none_counted, taken_few, tree_is}
+use Rattle.polite_routes.proofs.InTurn.{Next, bare_short, bare_tables, full_end, item_is, item_there, laid_stop, narrow_spots, next_pin, none_counted, taken_few, tree_is}
+use Rattle.polite_routes.proofs.Spotting.{blank_spots}
+use Rattle.polite_routes.proofs.Tallies.{small_counts}
 use Rattle.polite_routes.proofs.planting.plant_all.Goals as goal
 
 pub loop-pin-init : goal.loop-pin-init
@@ -13,6 +15,7 @@ loop-pin-init c = record {
   tables = c.requires.bare ∙ sym (bare_tables c.args.shape.now c.args.pins.now);
   boards = ap length c.requires.bare ∙ length-replicate (board_count c.args.shape.now) [];
   short = ap is_full c.requires.bare ∙ bare_short (board_count c.args.shape.now);
+  blank = blank_spots c.args.spots.now c.requires.blank;
   keys = c.requires.no_keys;
 }
 
@@ -22,7 +25,7 @@ plant_pin-requires-clause-there c =
 
 pub plant_pin-requires-clause-few : goal.plant_pin-requires-clause-few
 plant_pin-requires-clause-few c =
-    few_counts c.loop-pin.counts (take c.loop-pin.pin-index c.args.pins.now) c.loop-pin.invariant.room c.loop-pin.invariant.counts (taken_few c.args.pins.now c.loop-pin.pin-index c.requires.few)
+    small_counts c.loop-pin.counts (take c.loop-pin.pin-index c.args.pins.now) c.loop-pin.invariant.room c.loop-pin.invariant.counts (taken_few c.args.pins.now c.loop-pin.pin-index c.requires.few)
 
 pub plant_pin-requires-clause-narrow : goal.plant_pin-requires-clause-narrow
 plant_pin-requires-clause-narrow c =
@@ -43,4 +46,4 @@ loop-pin-preserved c =
     record { counted_all = i.counts; room = i.room; tables = i.tables; boards = i.boards; short = i.short; keys_are = i.keys } in
     let n = next_pin c.args.shape.now c.args.pins.now c.loop-pin.pin-index c.pin-item.result c.loop-pin.counts c.plant_pin.new.counts c.loop-pin.draft c.plant_pin.new.draft c.loop-pin.keys.items c.push.new.self.items c.in_ok-key.key c.loop-pin-test.true e s
     c.in_ok-key.ensures.counts c.in_ok-key.ensures.room c.in_ok-key.ensures.boards c.in_ok-key.ensures.gives.0 c.in_ok-key.ensures.gives.1 c.in_ok-key.ensures.gives.2 c.in-Ok.ensures.items in
-    record { counts = n.counted_all; room = n.room; tables = n.tables; boards = n.boards; short = n.short; keys = n.keys_are }
+    record { counts = n.counted_all; room = n.room; tables = n.tables; boards = n.boards; short = n.short; blank = c.in_ok-key.ensures.blank; keys = n.keys_are }
