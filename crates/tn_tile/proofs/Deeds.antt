@@ -1,5 +1,5 @@
 -- What each event of a tile leaves as it is, what the detector sees of it, and what keeps a tile still.
-use Rattle.std.proofs.Common.{ℕ, ◌≡◌, ◌<◌, ◌≤◌, ◌+ℤ◌, ◌-ℤ◌, ◌&&◌, zero, suc, Bool, true, false, cond, List, [], ◌∷◌, get_or, refl, sym, ap, subst, ◌∙◌, arith, inl, inr, option_map, pos, IsTrue, Option, Some, None, is_none, is_some}
+use Rattle.std.proofs.Common.{ℕ, ◌≡◌, ◌≤◌, ◌-ℤ◌, ◌&&◌, zero, suc, Bool, true, false, cond, List, [], ◌∷◌, get_or, refl, sym, ap, subst, ◌∙◌, arith, inl, inr, option_map, pos, Option, Some, None, is_none, is_some}
 use Rattle.std.specs.List.{list_all}
 use Rattle.std.proofs.lemmas.Bool.{and_parts, cases_Bool}
 use Rattle.rv_isa.specs.declared.instr.Instr.{Instr}
@@ -8,7 +8,7 @@ use Rattle.tn_base.specs.declared.op.Op.{Op}
 use Rattle.tn_base.specs.declared.op.Op.TheVariants as op
 use Rattle.tn_base.specs.declared.port.Port.{Port}
 use Rattle.tn_base.specs.declared.port.Port.TheVariants as port
-use Rattle.tn_base.specs.Address.{has_thread, place_in_tile, tile_of, tile_threads}
+use Rattle.tn_base.specs.Address.{has_thread, place_in_tile}
 use Rattle.tn_base.proofs.TilePlaces.{place_below}
 use Rattle.tn_node.specs.declared.node.Node.{Node}
 use Rattle.tn_node.specs.declared.ports.Ports.{Ports}

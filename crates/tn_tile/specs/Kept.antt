@@ -7,9 +7,7 @@ use Rattle.tn_base.specs.declared.port.Port.TheVariants as port
 use Rattle.tn_base.specs.declared.shape.ShapeNumbers.{ShapeNumbers}
 use Rattle.tn_base.specs.Address.{has_tile, in_tile, tile_threads}
 use Rattle.tn_base.specs.Message.{has_packet, slot_bytes}
-use Rattle.tn_base.specs.declared.op.Op.{Op}
-use Rattle.tn_base.specs.declared.op.Op.TheVariants as op
-use Rattle.tn_slots.specs.Pool.{Holds, fresh}
+use Rattle.tn_slots.specs.Pool.{fresh}
 use Rattle.tn_thread.specs.declared.thread.Thread.{Thread}
 use Rattle.tn_thread.specs.Step.{slot_size, started}
 use Rattle.tn_node.specs.declared.ports.Ports.{Ports}
@@ -79,16 +77,6 @@ pub record HasPlace (k : ℕ) (s : TileState) : Type 0 where
   pub thread : k < length s.threads
   pub pending : k < length s.pending
   pub queue : k < length s.pool.queues
-
--- a thread gives up only a slot that it holds
-abbrev pub MayAct : ℕ → Op → PoolModel → Type 0
-MayAct k op.None p = ⊤
-MayAct k (op.Send to bytes) p = ⊤
-MayAct k op.Hand p = ⊤
-MayAct k (op.Free slot) p = Holds p k slot
-MayAct k (op.Idle vote) p = ⊤
-MayAct k (op.Kill value) p = ⊤
-MayAct k (op.Trap why) p = ⊤
 
 -- a thread at its start, for this place of the machine
 pub record StartsAt (n : ShapeNumbers) (a : ℕ) (t : Thread) : Type 0 where

@@ -7,6 +7,7 @@ use Rattle.tn_base.specs.declared.effect.Effect.TheVariants as effect
 use Rattle.tn_base.specs.declared.event.Trap.{Trap}
 use Rattle.tn_base.specs.declared.event.Trap.TheVariants as trap
 use Rattle.tn_base.specs.declared.ids.ThreadId.{ThreadId}
+use Rattle.tn_base.specs.declared.message.Dest.{Dest}
 use Rattle.tn_base.specs.declared.message.Packet.{Packet}
 use Rattle.tn_base.specs.declared.op.Op.{Op}
 use Rattle.tn_base.specs.declared.op.Op.TheVariants as op
@@ -92,20 +93,20 @@ abbrev pub noted : ThreadId → Trap → Option (ThreadId × Trap) → Option (T
 noted id why None = Some (id, why)
 noted id why (Some first) = Some first
 
--- the tile after what the thread at a place asked of it, where the thread has this name and had sent this many packets. A
--- thread that ends gives up what it holds, and the letters of its queue are dropped
-abbrev pub asked : ℕ → ThreadId → ℕ → Op → TileState → TileState
-asked k id sends op.None s = s
-asked k id sends (op.Send to bytes) s = record s { pending = slice_set s.pending k (Some (record { origin = id.0; number = sends; dest = to; bytes = bytes })) }
-asked k id sends op.Hand s = record s { pool = taken k s.pool }
-asked k id sends (op.Free slot) s = record s { pool = freed k slot s.pool }
-asked k id sends (op.Idle vote) s = s
-asked k id sends (op.Kill value) s = record s { pool = left k s.pool; dropped = s.dropped + length (queue_at s.pool k) }
-asked k id sends (op.Trap why) s = record s { ended = noted id why s.ended }
+-- the packet that a send of a thread becomes: it bears the thread's send number
+abbrev pub packet_of : Thread → Dest → List ℕ → Packet
+packet_of t to bytes = record { origin = t.id.0; number = t.sends; dest = to; bytes = bytes }
 
--- the same, where the thread at the place was this one
+-- the tile after what the thread at a place, which was this one, asked of it. A thread that ends gives up what it holds,
+-- and the letters of its queue are dropped
 abbrev pub acted : ℕ → Thread → Op → TileState → TileState
-acted k t o s = asked k t.id t.sends o s
+acted k t op.None s = s
+acted k t (op.Send to bytes) s = record s { pending = slice_set s.pending k (Some (packet_of t to bytes)) }
+acted k t op.Hand s = record s { pool = taken k s.pool }
+acted k t (op.Free slot) s = record s { pool = freed k slot s.pool }
+acted k t (op.Idle vote) s = s
+acted k t (op.Kill value) s = record s { pool = left k s.pool; dropped = s.dropped + length (queue_at s.pool k) }
+acted k t (op.Trap why) s = record s { ended = noted t.id why s.ended }
 
 abbrev pub with_thread : ℕ → Thread → TileState → TileState
 with_thread k t s = record s { threads = slice_set s.threads k t }

@@ -1,11 +1,11 @@
 //! What events change of a tile.
 
-ghost use Rattle.std.specs.Prelude.{◌≡◌, ◌≤◌, ◌<◌, ◌+◌, ◌↔◌, ◌^◌, IfOk, IsTrue, Some};
-ghost use Rattle.tn_base.specs.declared.ids.ThreadId.{ThreadId};
-ghost use Rattle.tn_base.specs.Address.{in_tile, tile_threads};
-ghost use Rattle.tn_tile.specs.Kept.{HasPlace, IsFit, MayAct};
+ghost use Rattle.std.specs.Prelude.{◌≡◌, ◌≤◌, ◌<◌, ◌+◌, ◌↔◌, ◌^◌, IfOk, IsTrue, Some, false, length};
+ghost use Rattle.tn_base.specs.Address.{tile_threads};
+ghost use Rattle.tn_slots.specs.Pool.{Holds, freed, left, queue_at};
+ghost use Rattle.tn_tile.specs.Kept.{HasPlace, IsFit};
 ghost use Rattle.tn_tile.specs.Same.{SameCounts, SameMessages, SameState};
-ghost use Rattle.tn_tile.specs.Step.{asked, can_step, stepped, steps_of};
+ghost use Rattle.tn_tile.specs.Step.{can_step, noted, stepped, steps_of};
 ghost use Rattle.tn_tile.specs.Turns.{StepsUpTo};
 
 use crate::pending::Pending;
@@ -54,6 +54,17 @@ impl TileState {
         };
         let thread = self.threads.get(place);
         thread.runnable(&sight) && thread.steps() < fuel
+    }
+
+    /// Whether the thread at a place can make a step after a turn: it cannot if it made fewer steps than the most.
+    #[inline(always)]
+    pub(crate) fn can_go_on(&self, fuel: u32, place: u32, made: u32, most: u32) -> bool
+        requires place { HasPlace place self.now }
+        requires few { made ≤ most }
+        requires stops { made < most → can_step fuel place self.now ≡ false }
+        ensures { result ≡ can_step fuel place self.now }
+    {
+        made == most && self.can_step(fuel, place)
     }
 
     /// Makes as many of `most` steps of the thread at a place as it can, and says how many.
@@ -113,26 +124,11 @@ impl TileState {
             place,
             can_send: self.pending.is_free(place),
         };
-        let op = self.threads.step(place, plan.code(), &sight);
-        self.act(plan, place, number, op);
-    }
-
-    /// Does what the step of the thread at a place asks of the tile, where the thread had sent `number` packets.
-    #[inline(always)]
-    fn act(&mut self, plan: &Plan, place: u32, number: u32, op: Op)
-        requires there { place < tile_threads plan.now.shape }
-        requires place { HasPlace place self.old }
-        requires may { MayAct place op self.old.pool }
-        requires counts { self.old.dropped < 2 ^ 63 + 2 ^ 16 }
-        ensures row { self.new ≡ asked place (record { 0 = in_tile plan.now.shape plan.now.tile place }) number op self.old }
-        ensures count { self.new.dropped ≤ self.old.dropped + 512 }
-    {
-        match op {
+        match self.threads.step(place, plan.code(), &sight) {
             Op::None | Op::Idle(_) => {}
             Op::Send(dest, bytes) => {
-                let origin = plan.thread(place).0;
                 let packet = Packet {
-                    origin,
+                    origin: plan.thread(place).0,
                     number,
                     dest,
                     bytes,
@@ -142,18 +138,38 @@ impl TileState {
             Op::Hand => {
                 let _taken = self.pool.take(place);
             }
-            Op::Free(slot) => {
-                let _freed = self.pool.free(place, slot);
-            }
-            Op::Kill(_) => {
-                self.pool.kept();
-                self.dropped += u64::from(self.pool.leave(place));
-            }
-            Op::Trap(why) => {
-                if self.ended.is_none() {
-                    self.ended = Some((plan.thread(place), why));
-                }
-            }
+            Op::Free(slot) => self.free(place, slot),
+            Op::Kill(_) => self.leave(place),
+            Op::Trap(why) => self.note(plan.thread(place), why),
+        }
+    }
+
+    /// The thread at a place gives up a slot that it holds.
+    fn free(&mut self, place: u32, slot: u16)
+        requires place { place < length self.old.pool.queues }
+        requires holds { Holds self.old.pool place slot }
+        ensures { self.new ≡ record self.old { pool = freed place slot self.old.pool } }
+    {
+        let _freed = self.pool.free(place, slot);
+    }
+
+    /// The thread at a place has ended: it gives up what it holds, and the letters of its queue are dropped.
+    fn leave(&mut self, place: u32)
+        requires place { place < length self.old.pool.queues }
+        requires counts { self.old.dropped < 2 ^ 63 + 2 ^ 16 }
+        ensures row { self.new ≡ record self.old { pool = left place self.old.pool; dropped = self.old.dropped + length (queue_at self.old.pool place) } }
+        ensures count { self.new.dropped ≤ self.old.dropped + 512 }
+    {
+        self.pool.kept();
+        self.dropped += u64::from(self.pool.leave(place));
+    }
+
+    /// A thread has trapped. The first thread that trapped stays noted.
+    fn note(&mut self, id: ThreadId, why: Trap)
+        ensures { self.new ≡ record self.old { ended = noted id why self.old.ended } }
+    {
+        if self.ended.is_none() {
+            self.ended = Some((id, why));
         }
     }
 

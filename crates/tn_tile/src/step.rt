@@ -17,7 +17,7 @@ use tn_base::op::Op;
 /// What came of a turn.
 #[derive(Clone, Copy, PartialEq, Eq, Debug)]
 pub enum Turned {
-    /// So many steps were made.
+    /// This many steps were made.
     Moved(u32),
     /// The thread can make no step.
     Nothing,
@@ -58,7 +58,8 @@ impl Tile {
     {
         let place = self.plan.place(t);
         let made = self.state.turn(&self.plan, place, most);
-        let can = self.state.can_step(self.plan.fuel(), place);
+        let fuel = self.plan.fuel();
+        let can = self.state.can_go_on(fuel, place, made, most);
         self.ready = write_bit(self.ready, place, can);
         made
     }

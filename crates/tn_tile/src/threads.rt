@@ -88,7 +88,7 @@ impl Threads {
     {
         let thread = &mut self.items[at as usize];
         let op = advance(code, thread, sight);
-        if let Op::Kill(_) = &op {
+        if let ThreadState::Dead(_) = thread.state() {
             self.dead = self.dead.with(at);
         }
         op

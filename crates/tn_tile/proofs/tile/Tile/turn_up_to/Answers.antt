@@ -8,8 +8,8 @@ use Rattle.tn_tile.proofs.Moved.{steps_fit}
 use Rattle.tn_tile.proofs.Shaped.{has_place}
 use Rattle.tn_tile.proofs.tile.Tile.turn_up_to.Goals as goal
 
-pub can_step-can-requires : goal.can_step-can-requires
-can_step-can-requires c =
+pub can_go_on-can-requires-clause-place : goal.can_go_on-can-requires-clause-place
+can_go_on-can-requires-clause-place c =
     let v : TileView = record { plan = c.self.inside.plan; now = c.self.inside.state } in
     let k = c.place-place.result in
     let here : is_here v.plan c.args.t.0 ≡ true = rw (← c.self.view_is) at c.requires.here in
@@ -23,4 +23,7 @@ invariant_of-self c =
     let here : is_here v.plan c.args.t.0 ≡ true = rw (← c.self.view_is) at c.requires.here in
     let below : k < tile_threads v.plan.shape = c.place-place.ensures.below here in
     turned_known v k c.turn-made.result c.self.inside.ready c.write_bit-self-inside.result c.turn-made.new.self below c.self.invariant c.turn-made.ensures.steps
-    (c.write_bit-self-inside.ensures.written ∙ c.can_step-can.ensures ∙ ap (λ f. can_step f k c.turn-made.new.self) c.fuel.ensures.value) c.write_bit-self-inside.ensures.others
+    (c.write_bit-self-inside.ensures.written ∙ c.can_go_on-can.ensures ∙ ap (λ f. can_step f k c.turn-made.new.self) c.fuel-fuel.ensures.value) c.write_bit-self-inside.ensures.others
+
+pub can_go_on-can-requires-clause-stops : goal.can_go_on-can-requires-clause-stops
+can_go_on-can-requires-clause-stops c = λ early. ap (λ f. can_step f c.place-place.result c.turn-made.new.self) c.fuel-fuel.ensures.value ∙ c.turn-made.ensures.stops early

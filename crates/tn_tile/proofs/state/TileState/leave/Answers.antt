@@ -1,10 +1,10 @@
 use Rattle.std.proofs.Common.{◌≡◌, ◌∙◌, arith, length}
 use Rattle.tn_slots.specs.Pool.{queue_at}
 use Rattle.tn_tile.proofs.Made.{few_letters}
-use Rattle.tn_tile.proofs.state.TileState.act.Goals as goal
+use Rattle.tn_tile.proofs.state.TileState.leave.Goals as goal
 
-pub returns-in-Kill-clause-count : goal.returns-in-Kill-clause-count
-returns-in-Kill-clause-count c =
+pub returns-clause-count : goal.returns-clause-count
+returns-clause-count c =
     let gone : c.from.result ≡ length (queue_at c.args.self.now.pool c.args.place) = c.from.ensures ∙ c.leave.ensures.length in
-    let letters = few_letters c.args.self.now.pool c.args.place c.kept.ensures c.requires.place.queue in
+    let letters = few_letters c.args.self.now.pool c.args.place c.kept.ensures c.requires.place in
     omega arith
