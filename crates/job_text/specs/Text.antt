@@ -96,8 +96,12 @@ setting_line d n setting words = if takes_settings d.place then number_in words 
 abbrev pub closed : Job → Named → Section → Draft
 closed job named s = record { place = AtSections; job = with_section job s; named = named }
 
+-- a section is read so far
+abbrev pub going_on : Job → Named → Section → Draft
+going_on job named s = record { place = Inside s; job = job; named = named }
+
 abbrev pub opened : Job → Section → Named → Draft
-opened job s named = if is_whole s then closed job named s else record { place = Inside s; job = job; named = named }
+opened job s named = if is_whole s then closed job named s else going_on job named s
 
 abbrev pub opened_by : Job → Section → Option Named → Result Draft JobKind
 opened_by job s None = Err Twice
@@ -106,9 +110,6 @@ opened_by job s (Some named) = Ok (opened job s named)
 -- a section begins, unless a section before it has the same subject
 abbrev pub begun : Job → Named → Section → Result Draft JobKind
 begun job named s = opened_by job s (section_named named s)
-
-abbrev pub going_on : Job → Named → Section → Draft
-going_on job named s = record { place = Inside s; job = job; named = named }
 
 abbrev pub inside_line : Job → Named → Section → ℕ → List ℕ → Result Draft JobKind
 inside_line job named s n content =
