@@ -7,7 +7,7 @@ use Rattle.tn_base.specs.declared.part.Kind.{Kind}
 use Rattle.tn_base.specs.declared.part.Kind.TheVariants as kind
 use Rattle.tn_base.specs.Address.{has_thread, in_tile, tile_threads}
 use Rattle.tn_base.specs.declared.shape.ShapeNumbers.{ShapeNumbers}
-use Rattle.tn_base.specs.Parts.{board_at, board_count, kind_of, part_count, parts, router_part}
+use Rattle.tn_base.specs.Parts.{board_at, board_count, kind_of, parts, router_part}
 use Rattle.tn_keys.specs.Accepted.{Accepted}
 use Rattle.tn_keys.specs.Tables.{Table}
 use Rattle.tn_rows.proofs.Neighbours.{kind_router, router_within}

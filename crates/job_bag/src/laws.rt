@@ -10,7 +10,7 @@ ghost use Rattle.job_load.specs.Loaded.{loaded};
 ghost use Rattle.tn_letters.specs.Law.{IsBagRun, IsStart};
 
 use job_load::laws::{law_memory, law_start};
-use tn_bag::laws::law_runs;
+use tn_letters::laws::law_runs;
 
 /// The start of each job that is accepted is one of the bag machine's law.
 pub fn law_starts()

@@ -1,5 +1,5 @@
 -- What the definitions of faults and of memory mean.
-use Rattle.std.specs.Prelude.{ℕ, ◌≡◌, ◌⊎◌, ◌≤◌, ◌<◌, ◌+◌, ◌-◌, ◌++◌, ◌&&◌, List, [], ◌∷◌, length, map, nat_le, nat_lt, Option, Some, None, option_map, replicate, slice_index, if◌then◌else◌, IsTrue, false, pos}
+use Rattle.std.specs.Prelude.{ℕ, ◌≡◌, ◌⊎◌, ◌≤◌, ◌<◌, ◌+◌, ◌-◌, ◌++◌, ◌&&◌, List, [], ◌∷◌, length, map, nat_le, nat_lt, Option, Some, None, option_map, replicate, slice_index, if◌then◌else◌, IsTrue}
 use Rattle.std.specs.List.{AllByRecursion, filter_map}
 use Rattle.std.specs.Option.{option_or, unwrap_or}
 use Rattle.tn_base.specs.Address.{has_thread, tile_threads}

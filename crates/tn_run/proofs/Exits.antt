@@ -1,13 +1,12 @@
 -- The report lists each thread that ended, by ascending address.
-use Rattle.std.proofs.Common.{◌≡◌, ◌∙◌, ◌⊎◌, inl, inr, ℕ, zero, suc, ◌+◌, ◌-◌, ◌*◌, ◌<◌, ◌≤◌, List, [], ◌∷◌, ◌++◌, refl, sym, ap, subst, append-nil, length, length-append, get_or, map, arith}
+use Rattle.std.proofs.Common.{◌≡◌, ◌∙◌, ◌⊎◌, inl, inr, ℕ, suc, ◌+◌, ◌*◌, ◌<◌, ◌≤◌, List, [], ◌∷◌, ◌++◌, refl, sym, ap, subst, append-nil, length, length-append, get_or, map, arith}
 use Rattle.std.specs.List.{flat_map, range_with_len}
-use Rattle.tn_bag.proofs.PartKinds.{tile_part_is}
-use Rattle.tn_bag.specs.Machine.{addresses}
-use Rattle.tn_bag.specs.Tiles.{thread_of, tile_for, tile_in}
+use Rattle.tn_letters.proofs.PartKinds.{tile_part_is}
+use Rattle.tn_letters.specs.Tiles.{thread_of, tile_in}
 use Rattle.tn_base.proofs.Listing.{length_mapped}
 use Rattle.tn_base.proofs.Places.{orders_tiles}
 use Rattle.tn_base.proofs.TilePlaces.{place_back, tile_kind, tile_placed}
-use Rattle.tn_base.specs.Address.{in_tile, place_in_tile, thread_at, tile_of, tile_place, tile_threads}
+use Rattle.tn_base.specs.Address.{in_tile, place_in_tile, thread_at, tile_place, tile_threads}
 use Rattle.tn_base.specs.Parts.{from_routers, from_tiles, kind_of, part_count, tile_at, tile_count, tile_part}
 use Rattle.tn_base.specs.Shape.{WithinLimits, thread_count}
 use Rattle.tn_base.specs.declared.part.Kind.{Kind}
@@ -71,8 +70,8 @@ part_at w p = get_or w.parts p AbsentV
 record IsTile (n : ShapeNumbers) (k : Kind) (v : TileView) : Type 0 where
   tile : TileId
   kind_is : k ≡ kind.Tile tile
-  shape_is : v.shape ≡ n
-  named : v.tile ≡ tile.0
+  shape_is : v.plan.shape ≡ n
+  named : v.plan.tile ≡ tile.0
 
 is_tile : (n : ShapeNumbers) (k : Kind) (v : TileView) → FitsKind n k (TileV v) → IsTile n k v
 is_tile n (kind.Tile tile) v fits = record { tile = tile; kind_is = refl; shape_is = fits.0; named = fits.1 }
@@ -95,14 +94,14 @@ no_lines n p AbsentV fits out = refl
 
 -- the lines of a tile
 abbrev lines_of : ShapeNumbers → ℕ → PartView → List ℕ
-lines_of n a v = flat_map (λ k. exit_text (in_tile n a k) (get_or (tile_in v).threads k no_thread).state) (range_with_len 0 (tile_threads n))
+lines_of n a v = flat_map (λ k. exit_text (in_tile n a k) (get_or (tile_in v).now.threads k no_thread).state) (range_with_len 0 (tile_threads n))
 
-fitted : (n : ShapeNumbers) (a : ℕ) (v : PartView) → FitsKind n (kind.Tile (record { 0 = a })) v → length (tile_in v).threads ≡ tile_threads n → part_exits v ≡ lines_of n a v
+fitted : (n : ShapeNumbers) (a : ℕ) (v : PartView) → FitsKind n (kind.Tile (record { 0 = a })) v → length (tile_in v).now.threads ≡ tile_threads n → part_exits v ≡ lines_of n a v
 fitted n a (TileV v) fits count =
-    ap (λ (m : ShapeNumbers). exits_from m v.tile 0 v.threads) fits.0
-    ∙ ap (λ (x : ℕ). exits_from n x 0 v.threads) fits.1
-    ∙ tile_lines n a v.threads
-    ∙ ap (λ (m : ℕ). flat_map (λ k. exit_text (in_tile n a k) (get_or v.threads k no_thread).state) (range_with_len 0 m)) count
+    ap (λ (m : ShapeNumbers). exits_from m v.plan.tile 0 v.now.threads) fits.0
+    ∙ ap (λ (x : ℕ). exits_from n x 0 v.now.threads) fits.1
+    ∙ tile_lines n a v.now.threads
+    ∙ ap (λ (m : ℕ). flat_map (λ k. exit_text (in_tile n a k) (get_or v.now.threads k no_thread).state) (range_with_len 0 m)) count
 fitted n a (RouterV v) fits count = absurd fits
 fitted n a (LinkV v) fits count = absurd fits
 fitted n a AbsentV fits count = absurd fits
@@ -152,12 +151,12 @@ flat_of_map {C = C} f g (x ∷ xs) = ap (λ (ys : List C). f (g x) ++ ys) (flat_
 
 -- the thread at a place of a tile
 placed_thread : (w : WorldView) (t k : ℕ) → WithinLimits w.shape → t < tile_count w.shape → k < tile_threads w.shape →
-    thread_of w (in_tile w.shape (tile_at w.shape t) k) ≡ get_or (tile_in (get_or w.parts (tile_part t) AbsentV)).threads k no_thread
+    thread_of w (in_tile w.shape (tile_at w.shape t) k) ≡ get_or (tile_in (get_or w.parts (tile_part t) AbsentV)).now.threads k no_thread
 placed_thread w t k l h j =
     let n = w.shape in
     let a = in_tile n (tile_at n t) k in
     let back = place_back n (tile_at n t) k l ((orders_tiles n l).there t h) j in
-    let P : ℕ → ℕ → Thread = λ p i. get_or (tile_in (get_or w.parts (tile_part p) AbsentV)).threads i no_thread in
+    let P : ℕ → ℕ → Thread = λ p i. get_or (tile_in (get_or w.parts (tile_part p) AbsentV)).now.threads i no_thread in
     ap (λ (x : ℕ). P (tile_place n x) (place_in_tile n a)) back.0
     ∙ ap (λ (p : ℕ). P p (place_in_tile n a)) (tile_placed n t l h)
     ∙ ap (λ (i : ℕ). P t i) back.1

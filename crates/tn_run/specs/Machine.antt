@@ -6,7 +6,8 @@ use Rattle.job_load.specs.declared.fault.LoadFault.{LoadFault}
 use Rattle.job_load.specs.Loaded.{loaded}
 use Rattle.job_load.specs.Names.{name_of_text}
 use Rattle.job_text.specs.declared.job.Job.{Job}
-use Rattle.job_text.specs.declared.job.JobFault.{JobFault}
+use Rattle.job_text.specs.declared.job.JobKind.{JobKind}
+use Rattle.tn_text.specs.declared.stop.Fault.{Fault}
 use Rattle.job_text.specs.Text.{job_of}
 use Rattle.tn_letters.specs.Law.{IsBagRun}
 use Rattle.tn_base.specs.declared.event.Outcome.{Outcome}
@@ -47,7 +48,7 @@ machine_reads (machine.Run workers trace) = true
 -- From an input to its machine.
 
 -- the machine of what was read, at its start, or the first fault
-abbrev pub machine_by : Result Job JobFault → Result WorldView LoadFault
+abbrev pub machine_by : Result Job (Fault JobKind) → Result WorldView LoadFault
 machine_by (Ok job) = loaded job
 machine_by (Err fault) = Err (record { line = fault.line; kind = name_of_text fault.kind })
 

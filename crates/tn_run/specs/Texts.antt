@@ -12,14 +12,15 @@ use Rattle.tn_text.specs.Lines.{lines_of}
 use Rattle.tn_words.specs.declared.command.Command.{Command}
 use Rattle.tn_words.specs.declared.command.Command.TheVariants as command
 use Rattle.tn_words.specs.Forms.{form_of}
-use Rattle.asm_text.specs.declared.fault.AsmFault.{AsmFault}
+use Rattle.asm_text.specs.declared.fault.AsmKind.{AsmKind}
+use Rattle.tn_text.specs.declared.stop.Fault.{Fault}
 use Rattle.asm_build.specs.declared.image.Image.{Image}
 use Rattle.asm_build.specs.Shown.{shown}
 use Rattle.job_load.specs.declared.fault.FaultName.TheVariants as fault
 use Rattle.job_load.specs.declared.fault.LoadFault.{LoadFault}
 use Rattle.job_load.specs.declared.fault.LoadStop.{LoadStop}
 use Rattle.job_load.specs.declared.fault.LoadStop.TheVariants as stop
-use Rattle.job_load.specs.Assembly.{image_from}
+use Rattle.asm_build.specs.Text.{assembled}
 use Rattle.job_load.specs.Names.{fault_of_asm}
 use Rattle.tn_run.specs.declared.texts.TextCommand.{TextCommand}
 use Rattle.tn_run.specs.declared.texts.TextCommand.TheVariants.{Asm, Show}
@@ -51,7 +52,7 @@ abbrev pub words_text : List ℕ → List ℕ
 words_text [] = []
 words_text (word ∷ words) = word_line word ++ words_text words
 
-abbrev pub asm_by : Result Image AsmFault → Result (List ℕ) LoadFault
+abbrev pub asm_by : Result Image (Fault AsmKind) → Result (List ℕ) LoadFault
 asm_by (Ok image) = Ok (words_text image.words)
 asm_by (Err found) = Err (fault_of_asm found)
 
@@ -88,7 +89,7 @@ shown_lines number (l ∷ ls) = before (shown_line number l) (shown_lines (numbe
 
 -- a line for each command: what it makes of an input, or the first line at fault
 abbrev pub made_by : TextCommand → List ℕ → Result (List ℕ) LoadFault
-made_by Asm input = asm_by (image_from 1 input)
+made_by Asm input = asm_by (assembled 1 input)
 made_by Show input = shown_lines 1 (lines_of input)
 
 abbrev pub answer_by : Result (List ℕ) LoadFault → Status × List ℕ

@@ -5,9 +5,9 @@ ghost use Rattle.tn_run.specs.Texts.{Anything, Makes, made_by, onto, reads_all, 
 ghost use Rattle.tn_run.specs.declared.texts.TextCommand.{TextCommand};
 
 use crate::refusal::refused;
+use asm_build::assemble::assemble_text;
 use asm_build::show::show;
 use asm_text::fault::AsmStop;
-use job_load::assembly::assemble_text;
 use job_load::fault::{FaultName, LoadFault, LoadStop};
 use std::alloc::{AllocError, Global};
 use tn_call::service::{Answer, Service};
