@@ -5,15 +5,15 @@ use crate::jobs::{ACROSS, EAST, ECHO, KEYED, LEFT, MEET, THRICE};
 use crate::machines::{after, machine, replay};
 use std::alloc::{AllocError, Global};
 use std::test::Fail;
-use tn_letters::place::Place;
 use tn_bag::places::standing;
 use tn_bag::spell::bag_of;
-use tn_letters::steps::{BagStep, Seen};
 use tn_base::bytes::Bytes;
 use tn_base::event::Event;
 use tn_base::ids::{PartId, ThreadId, TileId};
 use tn_base::message::{HOST, Letter};
 use tn_base::port::Port;
+use tn_letters::place::Place;
+use tn_letters::steps::{BagStep, Seen};
 
 /// The letter from a thread, by the number of its packet, of 16 bytes that begin with four.
 #[derive(Clone, Copy)]
