@@ -2,7 +2,7 @@
 use Rattle.std.specs.List.{slice_get}
 use Rattle.std.specs.Int.{bit_at}
 use Rattle.std.proofs.lemmas.Nat.Bits.{bit_at-zero}
-use Rattle.std.proofs.Common.{◌⊎◌, inl, inr, ◌&&◌, ℕ, ◌+◌, ◌-◌, ◌<◌, ◌≤◌, ◌^◌, nat_lt, ◌≡◌, ◌==◌, ◌++◌, Bool, true, false, cond, List, [], ◌∷◌, length, get_or, map, drop, zero, suc, refl, sym, ◌∙◌, ap, subst, arith, Option, Some, None, is_some, unwrap_or, append_assoc, length-set}
+use Rattle.std.proofs.Common.{◌⊎◌, inl, inr, ◌&&◌, ℕ, ◌+◌, ◌-◌, ◌<◌, ◌≤◌, ◌^◌, nat_lt, ◌≡◌, ◌++◌, Bool, true, false, cond, List, [], ◌∷◌, length, get_or, map, drop, zero, suc, refl, sym, ◌∙◌, ap, subst, arith, Option, Some, None, is_some, unwrap_or, append_assoc, length-set}
 use Rattle.std.proofs.lemmas.Bool.{and_parts, eqb-true}
 use Rattle.std.proofs.lemmas.List.{append-nil, get_or-set_same}
 use Rattle.tn_base.specs.declared.message.Letter.{Letter}
