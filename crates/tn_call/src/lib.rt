@@ -1,6 +1,6 @@
 //! What a call of the program answers: its status with the cause, the bytes that it writes, and what is kept of it.
 //!
-//! The answers stand once for all commands, in `specs/Answers.antt`. A `service::Service` says which commands a call serves, and what each
+//! `specs/Answers.antt` defines the answers once for all commands. A `service::Service` says which commands a call serves, and what each
 //! command answers to an input. `call::call` reads the words and the input, and writes the answer: read it first.
 #![tactic(auto)]
 

@@ -18,6 +18,6 @@ HasThreads w = (t : ℕ) → t < tile_count w.shape → length (tile_in (slice_i
 abbrev pub listed_exits : WorldView → List ℕ
 listed_exits w = flat_map (λ a. exit_text a (thread_of w a).state) (addresses w.shape)
 
--- The report has a line for each thread of the machine that ended, and the lines stand by ascending address.
+-- The report has a line for each thread of the machine that ended, by ascending address.
 abbrev pub ListsExits : Type 0
 ListsExits = (w : WorldView) → WithinLimits w.shape → IsWorld w → HasThreads w → exits_text w.parts ≡ listed_exits w

@@ -1,8 +1,8 @@
 //! The top calls: `run_top` for the commands that run a machine, `plain_top` for the commands on texts, and `serve`, which hands the words
 //! to one of the two.
 //!
-//! What a call answers, and why, stands once in tn_call. What a command answers to an input is a line of `specs/Machine.antt` or of
-//! `specs/Texts.antt`, and the report stands in `specs/Report.antt`. What a run is, and how it ends, is tn_rows; what a job makes is job_load.
+//! tn_call defines what a call answers, and why. What a command answers to an input is a line of `specs/Machine.antt` or of
+//! `specs/Texts.antt`. The report is `specs/Report.antt`. What a run is, and how it ends, is tn_rows; what a job makes is job_load.
 //! Read `top::serve` first.
 #![tactic(auto)]
 
