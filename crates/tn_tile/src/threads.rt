@@ -4,7 +4,7 @@ ghost use Rattle.std.specs.Prelude.{◌≡◌, ◌≤◌, ◌<◌, ◌↔◌, �
 ghost use Rattle.tn_thread.specs.Fits.{StepFits};
 ghost use Rattle.tn_thread.specs.Step.{runnable};
 ghost use Rattle.tn_tile.specs.Alone.{RanAlone};
-ghost use Rattle.tn_tile.specs.Receivers.{dead_in};
+ghost use Rattle.tn_tile.specs.Receivers.{is_dead};
 ghost use Rattle.tn_tile.specs.Rows.{told};
 ghost use Rattle.tn_tile.specs.Step.{next_step, no_thread};
 
@@ -13,7 +13,6 @@ use crate::alone::run_code;
 use rv_isa::instr::Instr;
 use std::alloc::AllocError;
 use std::marker::Model;
-use tn_base::mask::Mask;
 use tn_base::op::Op;
 use tn_thread::state::ThreadState;
 use tn_thread::thread::Thread;
@@ -23,33 +22,23 @@ use tn_thread::view::View;
 #[derive(Drop)]
 pub struct Threads {
     items: Vec<Thread>,
-    /// The places of the threads that ended.
-    dead: Mask,
 }
 
 impl Model for Threads {
     ghost use Rattle.std.specs.Prelude.{List};
     ghost use Rattle.tn_thread.specs.declared.thread.Thread.{Thread};
-    ghost use Rattle.tn_tile.specs.Words.{KnowsDead};
 
     ghost Value = { List Thread };
 
     ghost view = { λ t. t.items.items };
-
-    ghost invariant = { λ t. KnowsDead t.items.items t.dead };
 }
 
 impl Threads {
-    /// Threads of which none ended.
+    /// These threads.
     pub(crate) fn of(items: Vec<Thread>) -> Threads
-        requires few { length items.items ≤ 64 }
-        requires alive { dead_in items.items ≡ 0 }
         ensures { result ≡ items.items }
     {
-        Threads {
-            items,
-            dead: Mask::of(0),
-        }
+        Threads { items }
     }
 
     /// All threads.
@@ -68,12 +57,13 @@ impl Threads {
         &self.items[at as usize]
     }
 
-    /// The places of the threads that ended.
-    pub(crate) fn dead(&self) -> Mask
-        ensures value { result ≡ dead_in self.now }
-        ensures few { length self.now ≤ 64 }
+    /// Whether the thread at a place has ended.
+    #[inline(always)]
+    pub(crate) fn has_ended(&self, at: u32) -> bool
+        requires { at < length self.now }
+        ensures { result ≡ is_dead (slice_index_or self.now at no_thread).state }
     {
-        self.dead
+        has_ended(self.get(at).state())
     }
 
     /// The own part of a step of the thread at a place, and what the thread asks of its tile.
@@ -87,11 +77,7 @@ impl Threads {
         ensures fits { StepFits (V.sight sight.now) (slice_index_or self.old at no_thread) (next_step code.now (V.sight sight.now) (slice_index_or self.old at no_thread)) }
     {
         let thread = &mut self.items[at as usize];
-        let op = advance(code, thread, sight);
-        if let ThreadState::Dead(_) = thread.state() {
-            self.dead = self.dead.with(at);
-        }
-        op
+        advance(code, thread, sight)
     }
 
     /// Makes steps of the thread at a place as long as they ask nothing of its tile: at most this many. The thread runs.
@@ -124,10 +110,7 @@ impl Threads {
         ensures { IfOk result (λ t. t ≡ self.now) }
     {
         let items = copy_threads(&self.items)?;
-        Ok(Threads {
-            items,
-            dead: self.dead,
-        })
+        Ok(Threads { items })
     }
 
     /// Whether the threads are equal.
@@ -135,6 +118,20 @@ impl Threads {
         ensures { IsTrue result ↔ (self.now ≡ other.now) }
     {
         same_threads(&self.items, &other.items)
+    }
+}
+
+/// Whether a thread has ended.
+fn has_ended(state: &ThreadState) -> bool
+    ensures { result ≡ is_dead state.now }
+{
+    match state {
+        ThreadState::Dead(_) => true,
+        ThreadState::Run
+        | ThreadState::Wait(_)
+        | ThreadState::Idle(_)
+        | ThreadState::Answered(_)
+        | ThreadState::Trapped(_) => false,
     }
 }
 
