@@ -1,19 +1,15 @@
 //! The threads of a tile.
 
 ghost use Rattle.std.specs.Prelude.{◌≡◌, ◌≤◌, ◌<◌, ◌↔◌, ◌+◌, ◌^◌, IfOk, IsTrue, length, map, slice_index_or, slice_set};
-ghost use Rattle.tn_thread.specs.Fits.{StepFits};
-ghost use Rattle.tn_thread.specs.Step.{runnable};
 ghost use Rattle.tn_tile.specs.Alone.{RanAlone};
 ghost use Rattle.tn_tile.specs.Receivers.{is_dead};
 ghost use Rattle.tn_tile.specs.Rows.{told};
-ghost use Rattle.tn_tile.specs.Step.{next_step, no_thread};
+ghost use Rattle.tn_tile.specs.Step.{no_thread};
 
-use crate::advance::advance;
 use crate::alone::run_code;
 use rv_isa::instr::Instr;
 use std::alloc::AllocError;
 use std::marker::Model;
-use tn_base::op::Op;
 use tn_thread::state::ThreadState;
 use tn_thread::thread::Thread;
 use tn_thread::view::View;
@@ -21,7 +17,7 @@ use tn_thread::view::View;
 /// The threads of a tile by ascending address.
 #[derive(Drop)]
 pub struct Threads {
-    items: Vec<Thread>,
+    pub(crate) items: Vec<Thread>,
 }
 
 impl Model for Threads {
@@ -64,20 +60,6 @@ impl Threads {
         ensures { result ≡ is_dead (slice_index_or self.now at no_thread).state }
     {
         has_ended(self.get(at).state())
-    }
-
-    /// The own part of a step of the thread at a place, and what the thread asks of its tile.
-    #[inline(always)]
-    pub(crate) fn step<V: View>(&mut self, at: u32, code: &[Option<Instr>], sight: &V) -> Op
-        requires there { at < length self.old }
-        requires runnable { IsTrue (runnable (V.sight sight.now) (slice_index_or self.old at no_thread).state) }
-        requires fuel { (slice_index_or self.old at no_thread).steps < (slice_index_or self.old at no_thread).shape.fuel }
-        ensures threads { self.new ≡ slice_set self.old at (next_step code.now (V.sight sight.now) (slice_index_or self.old at no_thread)).thread }
-        ensures op { result ≡ (next_step code.now (V.sight sight.now) (slice_index_or self.old at no_thread)).op }
-        ensures fits { StepFits (V.sight sight.now) (slice_index_or self.old at no_thread) (next_step code.now (V.sight sight.now) (slice_index_or self.old at no_thread)) }
-    {
-        let thread = &mut self.items[at as usize];
-        advance(code, thread, sight)
     }
 
     /// Makes steps of the thread at a place as long as they ask nothing of its tile: at most this many. The thread runs.
