@@ -17,9 +17,11 @@ use Rattle.tn_tile.specs.Inside.{KnowsReady}
 use Rattle.tn_tile.specs.Kept.{HasPlace, IsFit, OutFits}
 use Rattle.tn_tile.specs.Passes.{Wakes}
 use Rattle.tn_tile.specs.Ready.{LooksAt}
+use Rattle.tn_tile.specs.Receivers.{dead_in, is_dead}
 use Rattle.tn_tile.specs.Rows.{accept_row, came, delivered_from, passed, told, with_node}
-use Rattle.tn_tile.specs.Step.{can_step, no_thread, pending_at, steps_of}
+use Rattle.tn_tile.specs.Step.{can_step, no_thread, pending_at, steps_of, thread_at}
 use Rattle.tn_tile.specs.TileView.{TilePlan, TileState, TileView, with_now}
+use Rattle.tn_tile.proofs.Ended.{turned_dead}
 use Rattle.tn_tile.proofs.Elsewhere.{same_step, steps_other}
 use Rattle.tn_tile.proofs.Marked.{marks_look, marks_write}
 use Rattle.tn_tile.proofs.Moved.{steps_fit}
@@ -27,13 +29,14 @@ use Rattle.tn_tile.proofs.Packets.{Accepts, Drops, PassedOn, accept_is, accepts,
 use Rattle.tn_tile.proofs.Shaped.{has_place, out_set, threads_told}
 
 -- after steps of the thread at a place its bit alone is written
-pub turned_known : (v : TileView) (k n word new : ℕ) (t : TileState) → k < tile_threads v.plan.shape → KnowsReady v word → steps_of v.plan k n v.now ≡ Some t → (bit_at new k == 1) ≡ can_step v.plan.shape.fuel k t
-    → ((i : ℕ) → i < 64 → i ≢ k → bit_at new i ≡ bit_at word i) → KnowsReady (with_now v t) new
-turned_known v k n word new t h w steps written others = record {
+pub turned_known : (v : TileView) (k n word new dead new_dead : ℕ) (t : TileState) → k < tile_threads v.plan.shape → KnowsReady v word dead → steps_of v.plan k n v.now ≡ Some t → (bit_at new k == 1) ≡ can_step v.plan.shape.fuel k t
+    → ((i : ℕ) → i < 64 → i ≢ k → bit_at new i ≡ bit_at word i) → new_dead ≡ cond (is_dead (thread_at t k).state) (with_bit dead k) dead → KnowsReady (with_now v t) new new_dead
+turned_known v k n word new dead new_dead t h w steps written others ends = record {
   shaped = record { tile = w.shaped.tile; fits = steps_fit n v.plan k v.now t h steps w.shaped.fits };
   few = w.few;
   ready = marks_write (λ j. can_step v.plan.shape.fuel j v.now) (λ j. can_step v.plan.shape.fuel j t) word new k w.ready written others
       (λ j ne. same_step v.plan.shape.fuel j v.now t (steps_other n v.plan k j v.now t ne steps));
+  dead = ends ∙ turned_dead (is_dead (thread_at t k).state) n v.plan k dead v.now t (rw w.shaped.fits.threads.count h) (rw w.shaped.fits.threads.count w.few) w.dead steps refl;
 }
 
 -- a delivery takes the packet from its place, and passes it on
@@ -47,9 +50,9 @@ not_named places set k j h is none e =
     cc (one, none)
 
 -- after a delivery the bits of the sender and of the receivers are looked at
-pub delivered_known : (v : TileView) (k word new set places : ℕ) (t : TileState) → k < tile_threads v.plan.shape → k < 64 → KnowsReady v word → delivered_from v.plan k (pending_at v.now k) v.now ≡ Some t → Wakes set v.now.pool t.pool → places ≡ with_bit set k
-    → LooksAt word new places (λ j. can_step v.plan.shape.fuel j t) → KnowsReady (with_now v t) new
-delivered_known v k word new set places t h few w row wakes is looks =
+pub delivered_known : (v : TileView) (k word new dead set places : ℕ) (t : TileState) → k < tile_threads v.plan.shape → k < 64 → KnowsReady v word dead → delivered_from v.plan k (pending_at v.now k) v.now ≡ Some t → Wakes set v.now.pool t.pool → places ≡ with_bit set k
+    → LooksAt word new places (λ j. can_step v.plan.shape.fuel j t) → KnowsReady (with_now v t) new dead
+delivered_known v k word new dead set places t h few w row wakes is looks =
     let on : PassedOn (record v.now { pending = slice_set v.now.pending k None }) t = delivered_on v.plan k (pending_at v.now k) v.now t row in
     record {
       shaped = record { tile = w.shaped.tile; fits = delivered_fits v.plan k (pending_at v.now k) v.now t refl row w.shaped.fits };
@@ -63,6 +66,7 @@ delivered_known v k word new set places t h few w row wakes is looks =
             pending = ap (λ ps. get_or ps j None) on.pending ∙ get_or-set_other v.now.pending k j None None ne;
             queue = wakes.kept j small out;
           }));
+      dead = w.dead ∙ ap dead_in (sym on.threads);
     }
 
 -- a packet that is taken from a link is passed on, and counted
@@ -92,8 +96,8 @@ accepted_drops plan p s t few h =
     subst (Drops s) (sym c.is) (record { more = d.more; few = d.few })
 
 -- after a packet came from a link the bits of its receivers are looked at
-pub accepted_known : (v : TileView) (p : Packet) (word new set : ℕ) (t : TileState) → KnowsReady v word → accept_row v.plan p v.now ≡ Some t → Wakes set v.now.pool t.pool → LooksAt word new set (λ j. can_step v.plan.shape.fuel j t) → KnowsReady (with_now v t) new
-accepted_known v p word new set t w row wakes looks =
+pub accepted_known : (v : TileView) (p : Packet) (word new dead set : ℕ) (t : TileState) → KnowsReady v word dead → accept_row v.plan p v.now ≡ Some t → Wakes set v.now.pool t.pool → LooksAt word new set (λ j. can_step v.plan.shape.fuel j t) → KnowsReady (with_now v t) new dead
+accepted_known v p word new dead set t w row wakes looks =
     let c : Came v.plan p v.now t = came_by v.plan p v.now t row in
     let on : PassedOn v.now c.mid = passed_on v.plan p v.now c.mid c.row in
     let threads : t.threads ≡ v.now.threads = ap (λ (x : TileState). x.threads) c.is ∙ on.threads in
@@ -107,6 +111,7 @@ accepted_known v p word new set t w row wakes looks =
             pending = ap (λ ps. get_or ps j None) pending;
             queue = wakes.kept j small none;
           }));
+      dead = w.dead ∙ ap dead_in (sym threads);
     }
 
 -- the places of a set have what a look needs
@@ -121,10 +126,10 @@ named_places plan places set at s t h small is old new wakes k below one = elim 
 ]
 
 -- another node: its packets are those of the machine, on ways that a tile has
-pub node_known : (v : TileView) (word : ℕ) (node : Node) → OutFits v.plan.shape node.out → KnowsReady v word → KnowsReady (with_now v (with_node v.now node)) word
-node_known v word node fits w =
+pub node_known : (v : TileView) (word dead : ℕ) (node : Node) → OutFits v.plan.shape node.out → KnowsReady v word dead → KnowsReady (with_now v (with_node v.now node)) word dead
+node_known v word dead node fits w =
     let f = w.shaped.fits in
-    record { shaped = record { tile = w.shaped.tile; fits = record { threads = f.threads; pool = f.pool; pending = f.pending; out = fits } }; few = w.few; ready = record { each = w.ready.each } }
+    record { shaped = record { tile = w.shaped.tile; fits = record { threads = f.threads; pool = f.pool; pending = f.pending; out = fits } }; few = w.few; ready = record { each = w.ready.each }; dead = w.dead }
 
 departed_by : (o : Option Packet) (way : Port) (n m : Node) → departed_with o way n ≡ Some m → departed way n ≡ m
 departed_by None way n m e = cc e
@@ -139,8 +144,8 @@ departed_is way n m e = departed_by (offered way n) way n m e
 pub departed_out : (n : ShapeNumbers) (way : Port) (old new : Node) → node_departs way old ≡ Some new → OutFits n old.out → OutFits n new.out
 departed_out n way old new e w = subst (λ (m : Node). OutFits n m.out) (departed_is way old new e) (out_set n way None old.out tt w)
 
-pub departed_known : (v : TileView) (way : Port) (word : ℕ) (node : Node) → node_departs way v.now.node ≡ Some node → KnowsReady v word → KnowsReady (with_now v (with_node v.now node)) word
-departed_known v way word node e w = node_known v word node (departed_out v.plan.shape way v.now.node node e w.shaped.fits.out) w
+pub departed_known : (v : TileView) (way : Port) (word dead : ℕ) (node : Node) → node_departs way v.now.node ≡ Some node → KnowsReady v word dead → KnowsReady (with_now v (with_node v.now node)) word dead
+departed_known v way word dead node e w = node_known v word dead node (departed_out v.plan.shape way v.now.node node e w.shaped.fits.out) w
 
 -- after a release all bits are looked at
 pub told_fits : (plan : TilePlan) (value : ℕ) (node : Node) (s : TileState) → node.out ≡ s.node.out → IsFit plan s → IsFit plan (record s { threads = map (told value) s.threads; node = node })

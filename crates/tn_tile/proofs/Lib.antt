@@ -1,6 +1,7 @@
 pub mod Dead
 pub mod Deeds
 pub mod Elsewhere
+pub mod Ended
 pub mod Ends
 pub mod Marked
 pub mod Moved

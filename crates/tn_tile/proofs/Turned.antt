@@ -1,5 +1,5 @@
 -- What steps that ask nothing of the tile make of it: they are steps of the thread at its place.
-use Rattle.std.proofs.Common.{ℕ, ◌≡◌, ◌≤◌, ◌<◌, ◌+◌, ◌/◌, suc, zero, List, [], ◌∷◌, true, length, get_or, set, refl, sym, ap, subst, ◌∙◌, arith, Option, Some, None, option_and_then, option_map, slice_get}
+use Rattle.std.proofs.Common.{ℕ, ◌≡◌, ◌≤◌, ◌<◌, ◌+◌, ◌/◌, suc, zero, List, [], ◌∷◌, true, length, set, refl, sym, ap, subst, ◌∙◌, arith, Option, Some, None, option_and_then, option_map, slice_get}
 use Rattle.std.proofs.lemmas.Bool.{lt-ltb}
 use Rattle.std.proofs.lemmas.List.{get_or-set_same, length-set, set-get_or}
 use Rattle.rv_isa.specs.declared.instr.Instr.{Instr}
@@ -12,15 +12,12 @@ use Rattle.tn_thread.specs.Sight.{Sight}
 use Rattle.tn_thread.specs.Step.{Stepped, runnable, turned}
 use Rattle.tn_thread.proofs.AloneSteps.{Stays, alone_is, caught, stays_self, stays_more}
 use Rattle.tn_thread.proofs.Fits.{turned_runs}
-use Rattle.tn_tile.specs.Alone.{RanAlone, alone_at, alone_steps, next_alone, went_alone}
-use Rattle.tn_tile.specs.Receivers.{is_dead}
+use Rattle.tn_tile.specs.Alone.{RanAlone, alone_at, alone_steps, next_alone}
 use Rattle.tn_tile.specs.Step.{Fetched, acted, can_step, fetched_at, fetched_by, next_step, no_thread, sight_at, step_at_place, stepped, steps_of, thread_at, with_thread}
 use Rattle.tn_tile.specs.TileView.{TilePlan, TileState}
-use Rattle.tn_tile.specs.Words.{KnowsDead}
-use Rattle.tn_tile.proofs.Dead.{dead_kept}
 use Rattle.tn_tile.proofs.Runs.{at_stays}
 
-set_twice : {X : Type 0} (xs : List X) (k : ℕ) (x y : X) → set (set xs k x) k y ≡ set xs k y
+pub set_twice : {X : Type 0} (xs : List X) (k : ℕ) (x y : X) → set (set xs k x) k y ≡ set xs k y
 set_twice [] k x y = refl
 set_twice (z ∷ xs) zero x y = refl
 set_twice (z ∷ xs) (suc k) x y = ap (λ r. z ∷ r) (set_twice xs k x y)
@@ -124,12 +121,3 @@ ran_alone plan s k n threads within run few r =
     steps_from n 0 k plan s (record { pc = old.pc; thread = old }) g within (caught_none old) run (omega arith) went.1
     ∙ ap (λ t. Some (with_thread k t s)) thread
     ∙ ap (λ ts. Some (record s { threads = ts })) (sym r.put)
-
--- such steps end no thread
-pub alone_dead : (threads : List Thread) (k n dead : ℕ) (code : List (Option Instr)) (seen : Sight) (new : Thread) → KnowsDead threads dead → went_alone n code seen (get_or threads k no_thread) ≡ Some new → KnowsDead (set threads k new) dead
-alone_dead threads k n dead code seen new w e =
-    let old = get_or threads k no_thread in
-    let went = map_some (λ (g : Going). caught_up n g.pc g.thread) (alone_steps n code seen (record { pc = old.pc; thread = old })) new e in
-    let stays : Stays old went.0.thread = steps_stay n code seen (record { pc = old.pc; thread = old }) went.0 went.1 in
-    let same : is_dead new.state ≡ is_dead old.state = ap (λ (t : Thread). is_dead t.state) went.2 ∙ ap is_dead stays.state in
-    record { few = rw length-set w.few; dead = w.dead ∙ sym (dead_kept threads k new same) }

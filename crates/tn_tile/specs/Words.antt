@@ -1,14 +1,7 @@
--- What the words of a tile say of its lists.
-use Rattle.std.specs.Prelude.{ℕ, ◌≡◌, ◌≤◌, List, length, None, Option, is_some, slice_index_or}
+-- What the word of the pending packets says.
+use Rattle.std.specs.Prelude.{ℕ, ◌≤◌, List, length, None, Option, is_some, slice_index_or}
 use Rattle.tn_base.specs.declared.message.Packet.{Packet}
-use Rattle.tn_thread.specs.declared.thread.Thread.{Thread}
 use Rattle.tn_tile.specs.Ready.{Marks}
-use Rattle.tn_tile.specs.Receivers.{dead_in}
-
--- the word says which threads ended
-pub record KnowsDead (threads : List Thread) (word : ℕ) : Type 0 where
-  pub few : length threads ≤ 64
-  pub dead : word ≡ dead_in threads
 
 -- the word says at which places a packet is pending
 pub record KnowsSends (pending : List (Option Packet)) (word : ℕ) : Type 0 where

@@ -1,8 +1,11 @@
 //! Words of which each bit says something of a place.
 
-ghost use Rattle.std.specs.Prelude.{◌≡◌, ◌≢◌, ◌<◌, ◌==◌, ℕ};
+ghost use Rattle.std.specs.Prelude.{◌≡◌, ◌≢◌, ◌<◌, ◌==◌, ℕ, if◌then◌else◌};
 ghost use Rattle.std.specs.Int.{bit_at};
+ghost use Rattle.tn_base.specs.Mask.{with_bit};
 ghost use Rattle.tn_tile.specs.Ready.{IsFirst};
+
+use tn_base::mask::Mask;
 
 /// Whether a bit of the word is one.
 #[inline(always)]
@@ -25,6 +28,15 @@ pub(crate) fn write_bit(word: u64, at: u32, one: bool) -> u64
     } else {
         word & !(1 << at)
     }
+}
+
+/// The set with a thread added, if it is to be added.
+#[inline(always)]
+pub(crate) fn with_if(set: Mask, at: u32, added: bool) -> Mask
+    requires { at < 64 }
+    ensures { result ≡ (if added then with_bit set at else set) }
+{
+    if added { set.with(at) } else { set }
 }
 
 /// The place of the lowest bit that is one.

@@ -33,7 +33,7 @@ impl Tile {
             return Did::Nothing;
         }
         let place = self.plan.place(t);
-        let Some(woken) = self.state.deliver(&self.plan, place) else {
+        let Some(woken) = self.state.deliver(&self.plan, self.dead, place) else {
             return Did::Nothing;
         };
         self.ready = look_at(self.ready, &self.state, self.plan.fuel(), woken.with(place));
@@ -47,7 +47,7 @@ impl Tile {
     {
         match self.state.pending.get(self.plan.place(t)) {
             None => false,
-            Some(packet) => self.counts() && self.state.has_room(&self.plan, packet),
+            Some(packet) => self.counts() && self.state.has_room(&self.plan, self.dead, packet),
         }
     }
 
@@ -70,7 +70,7 @@ impl Tile {
     pub fn accepts(&self, p: &Packet) -> bool
         ensures { result ≡ is_some (accepted self.now.plan p.now self.now.now) }
     {
-        self.plan.has_packet(p) && self.state.has_room(&self.plan, p)
+        self.plan.has_packet(p) && self.state.has_room(&self.plan, self.dead, p)
     }
 
     /// Takes a packet from a link. Answers for how many dead receivers on this tile it was dropped.
@@ -80,7 +80,7 @@ impl Tile {
         ensures dropped { result ≡ self.new.now.dropped - self.old.now.dropped }
     {
         let before = self.state.dropped;
-        let woken = self.state.accept(&self.plan, p);
+        let woken = self.state.accept(&self.plan, self.dead, p);
         self.ready = look_at(self.ready, &self.state, self.plan.fuel(), woken);
         (self.state.dropped - before) as u32
     }

@@ -8,6 +8,7 @@ ghost use Rattle.tn_tile.specs.Same.{SameCounts, SameMessages, SameState};
 ghost use Rattle.tn_tile.specs.Step.{can_step, noted, stepped, steps_of};
 ghost use Rattle.tn_tile.specs.Turns.{StepsUpTo};
 
+use crate::advance::advance;
 use crate::pending::Pending;
 use crate::plan::Plan;
 use crate::sender::Senders;
@@ -118,13 +119,15 @@ impl TileState {
         ensures row { self.new ≡ stepped plan.now.code place self.old }
         ensures count { self.new.dropped ≤ self.old.dropped + 512 }
     {
-        let number = self.threads.get(place).sends();
         let sight = TileSight {
             pool: &self.pool,
             place,
             can_send: self.pending.is_free(place),
         };
-        match self.threads.step(place, plan.code(), &sight) {
+        let threads = &mut self.threads;
+        let thread = &mut threads.items[place as usize];
+        let number = thread.sends();
+        match advance(plan.code(), thread, &sight) {
             Op::None | Op::Idle(_) => {}
             Op::Send(dest, bytes) => {
                 let packet = Packet {

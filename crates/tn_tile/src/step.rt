@@ -7,7 +7,7 @@ ghost use Rattle.tn_tile.specs.Step.{can_step, step_at_place};
 ghost use Rattle.tn_tile.specs.Turns.{StepsUpTo, TurnIs};
 
 use crate::advance::advance;
-use crate::bits::{has_bit, write_bit};
+use crate::bits::{has_bit, with_if, write_bit};
 use crate::sight::TileSight;
 use crate::tile::Tile;
 use std::alloc::AllocError;
@@ -61,6 +61,7 @@ impl Tile {
         let fuel = self.plan.fuel();
         let can = self.state.can_go_on(fuel, place, made, most);
         self.ready = write_bit(self.ready, place, can);
+        self.dead = with_if(self.dead, place, self.state.threads.has_ended(place));
         made
     }
 

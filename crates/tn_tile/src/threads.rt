@@ -1,20 +1,15 @@
 //! The threads of a tile.
 
 ghost use Rattle.std.specs.Prelude.{◌≡◌, ◌≤◌, ◌<◌, ◌↔◌, ◌+◌, ◌^◌, IfOk, IsTrue, length, map, slice_index_or, slice_set};
-ghost use Rattle.tn_thread.specs.Fits.{StepFits};
-ghost use Rattle.tn_thread.specs.Step.{runnable};
 ghost use Rattle.tn_tile.specs.Alone.{RanAlone};
-ghost use Rattle.tn_tile.specs.Receivers.{dead_in};
+ghost use Rattle.tn_tile.specs.Receivers.{is_dead};
 ghost use Rattle.tn_tile.specs.Rows.{told};
-ghost use Rattle.tn_tile.specs.Step.{next_step, no_thread};
+ghost use Rattle.tn_tile.specs.Step.{no_thread};
 
-use crate::advance::advance;
 use crate::alone::run_code;
 use rv_isa::instr::Instr;
 use std::alloc::AllocError;
 use std::marker::Model;
-use tn_base::mask::Mask;
-use tn_base::op::Op;
 use tn_thread::state::ThreadState;
 use tn_thread::thread::Thread;
 use tn_thread::view::View;
@@ -22,34 +17,24 @@ use tn_thread::view::View;
 /// The threads of a tile by ascending address.
 #[derive(Drop)]
 pub struct Threads {
-    items: Vec<Thread>,
-    /// The places of the threads that ended.
-    dead: Mask,
+    pub(crate) items: Vec<Thread>,
 }
 
 impl Model for Threads {
     ghost use Rattle.std.specs.Prelude.{List};
     ghost use Rattle.tn_thread.specs.declared.thread.Thread.{Thread};
-    ghost use Rattle.tn_tile.specs.Words.{KnowsDead};
 
     ghost Value = { List Thread };
 
     ghost view = { λ t. t.items.items };
-
-    ghost invariant = { λ t. KnowsDead t.items.items t.dead };
 }
 
 impl Threads {
-    /// Threads of which none ended.
+    /// These threads.
     pub(crate) fn of(items: Vec<Thread>) -> Threads
-        requires few { length items.items ≤ 64 }
-        requires alive { dead_in items.items ≡ 0 }
         ensures { result ≡ items.items }
     {
-        Threads {
-            items,
-            dead: Mask::of(0),
-        }
+        Threads { items }
     }
 
     /// All threads.
@@ -68,30 +53,13 @@ impl Threads {
         &self.items[at as usize]
     }
 
-    /// The places of the threads that ended.
-    pub(crate) fn dead(&self) -> Mask
-        ensures value { result ≡ dead_in self.now }
-        ensures few { length self.now ≤ 64 }
-    {
-        self.dead
-    }
-
-    /// The own part of a step of the thread at a place, and what the thread asks of its tile.
+    /// Whether the thread at a place has ended.
     #[inline(always)]
-    pub(crate) fn step<V: View>(&mut self, at: u32, code: &[Option<Instr>], sight: &V) -> Op
-        requires there { at < length self.old }
-        requires runnable { IsTrue (runnable (V.sight sight.now) (slice_index_or self.old at no_thread).state) }
-        requires fuel { (slice_index_or self.old at no_thread).steps < (slice_index_or self.old at no_thread).shape.fuel }
-        ensures threads { self.new ≡ slice_set self.old at (next_step code.now (V.sight sight.now) (slice_index_or self.old at no_thread)).thread }
-        ensures op { result ≡ (next_step code.now (V.sight sight.now) (slice_index_or self.old at no_thread)).op }
-        ensures fits { StepFits (V.sight sight.now) (slice_index_or self.old at no_thread) (next_step code.now (V.sight sight.now) (slice_index_or self.old at no_thread)) }
+    pub(crate) fn has_ended(&self, at: u32) -> bool
+        requires { at < length self.now }
+        ensures { result ≡ is_dead (slice_index_or self.now at no_thread).state }
     {
-        let thread = &mut self.items[at as usize];
-        let op = advance(code, thread, sight);
-        if let ThreadState::Dead(_) = thread.state() {
-            self.dead = self.dead.with(at);
-        }
-        op
+        has_ended(self.get(at).state())
     }
 
     /// Makes steps of the thread at a place as long as they ask nothing of its tile: at most this many. The thread runs.
@@ -124,10 +92,7 @@ impl Threads {
         ensures { IfOk result (λ t. t ≡ self.now) }
     {
         let items = copy_threads(&self.items)?;
-        Ok(Threads {
-            items,
-            dead: self.dead,
-        })
+        Ok(Threads { items })
     }
 
     /// Whether the threads are equal.
@@ -135,6 +100,20 @@ impl Threads {
         ensures { IsTrue result ↔ (self.now ≡ other.now) }
     {
         same_threads(&self.items, &other.items)
+    }
+}
+
+/// Whether a thread has ended.
+fn has_ended(state: &ThreadState) -> bool
+    ensures { result ≡ is_dead state.now }
+{
+    match state {
+        ThreadState::Dead(_) => true,
+        ThreadState::Run
+        | ThreadState::Wait(_)
+        | ThreadState::Idle(_)
+        | ThreadState::Answered(_)
+        | ThreadState::Trapped(_) => false,
     }
 }
 

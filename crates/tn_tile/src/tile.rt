@@ -5,7 +5,6 @@ ghost use Rattle.tn_base.specs.Address.{has_tile, place_in_tile, tile_of, tile_t
 ghost use Rattle.tn_node.specs.PortRows.{at};
 ghost use Rattle.tn_tile.specs.Kept.{AreStarts, WellShaped, fresh_state, fresh_tile};
 ghost use Rattle.tn_tile.specs.Ready.{IsFirst};
-ghost use Rattle.tn_tile.specs.Receivers.{dead_in};
 ghost use Rattle.tn_tile.specs.Rows.{can_count, is_here, sender_of};
 ghost use Rattle.tn_tile.specs.Step.{can_step, pending_at, thread_at};
 
@@ -20,6 +19,7 @@ use std::alloc::{AllocError, Global};
 use std::marker::Model;
 use tn_base::event::Trap;
 use tn_base::ids::{ThreadId, TileId};
+use tn_base::mask::Mask;
 use tn_base::message::Packet;
 use tn_base::port::Port;
 use tn_base::shape::Shape;
@@ -30,12 +30,14 @@ use tn_thread::thread::Thread;
 /// Letters are dropped on a tile only as long as they can be counted.
 const MOST_DROPPED: u64 = 1 << 63;
 
-/// A tile: what no event changes, what events change, and the places whose thread can make a step.
+/// A tile: what no event changes, what events change, the places whose thread can make a step, and the
+/// places whose thread has ended.
 #[derive(Drop)]
 pub struct Tile {
     pub(crate) plan: Plan,
     pub(crate) state: TileState,
     pub(crate) ready: u64,
+    pub(crate) dead: Mask,
 }
 
 impl Model for Tile {
@@ -46,13 +48,11 @@ impl Model for Tile {
 
     ghost view = { λ t. record { plan = t.plan; now = t.state } };
 
-    ghost invariant = { λ t. KnowsReady (record { plan = t.plan; now = t.state }) t.ready };
+    ghost invariant = { λ t. KnowsReady (record { plan = t.plan; now = t.state }) t.ready t.dead };
 }
 
 /// The state of a tile at its start.
 fn start_of(alloc: Global, shape: &Shape, threads: Vec<Thread>) -> Result<TileState, AllocError>
-    requires count { length threads.items ≡ tile_threads shape.now }
-    requires alive { dead_in threads.items ≡ 0 }
     ensures { IfOk result (λ s. s ≡ fresh_state shape.now threads.items) }
 {
     let n = shape.numbers();
@@ -84,7 +84,12 @@ impl Tile {
         let plan = Plan::of(alloc, shape, tile, code)?;
         let state = start_of(alloc, shape, threads)?;
         let ready = all_ready(&plan, &state);
-        Ok(Tile { plan, state, ready })
+        Ok(Tile {
+            plan,
+            state,
+            ready,
+            dead: Mask::of(0),
+        })
     }
 
     /// The machine that the tile is a part of.
@@ -213,6 +218,7 @@ impl Tile {
             plan: self.plan.copy()?,
             state: self.state.copy()?,
             ready: self.ready,
+            dead: self.dead,
         })
     }
 

@@ -33,4 +33,4 @@ invariant_of-self c =
     let v : TileView = record { plan = c.self.inside.plan; now = c.self.inside.state } in
     let new = c.accept-woken.new.self in
     let looks : LooksAt c.self.inside.ready c.look_at-self-inside.result c.accept-woken.result (λ j. can_step v.plan.shape.fuel j new) = rw c.fuel.ensures.value at c.look_at-self-inside.ensures in
-    accepted_known v c.args.p.now c.self.inside.ready c.look_at-self-inside.result c.accept-woken.result new c.self.invariant c.accept-woken.ensures.row c.accept-woken.ensures.woken looks
+    accepted_known v c.args.p.now c.self.inside.ready c.look_at-self-inside.result c.self.inside.dead c.accept-woken.result new c.self.invariant c.accept-woken.ensures.row c.accept-woken.ensures.woken looks

@@ -27,4 +27,4 @@ invariant_of-self-2 c =
     let below : k < tile_threads v.plan.shape = c.place-place.ensures.below here in
     let few = c.self.invariant.few in
     let looks : LooksAt c.self.inside.ready c.look_at-self-inside.result c.with.result (λ j. can_step v.plan.shape.fuel j c.deliver.new.self) = rw c.fuel.ensures.value at c.look_at-self-inside.ensures in
-    delivered_known v k c.self.inside.ready c.look_at-self-inside.result c.in-Some.woken c.with.result c.deliver.new.self below (omega arith) c.self.invariant c.in-Some.ensures.0 c.in-Some.ensures.1 c.with.ensures looks
+    delivered_known v k c.self.inside.ready c.look_at-self-inside.result c.self.inside.dead c.in-Some.woken c.with.result c.deliver.new.self below (omega arith) c.self.invariant c.in-Some.ensures.0 c.in-Some.ensures.1 c.with.ensures looks

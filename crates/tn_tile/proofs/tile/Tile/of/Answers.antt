@@ -1,11 +1,9 @@
-use Rattle.std.proofs.Common.{◌≡◌, sym, subst}
+use Rattle.std.proofs.Common.{◌≡◌, ◌∙◌, ap, sym, subst}
 use Rattle.tn_tile.specs.Kept.{WellShaped, fresh_tile}
-use Rattle.tn_tile.specs.TileView.{TileView}
+use Rattle.tn_tile.specs.Receivers.{dead_in}
+use Rattle.tn_tile.specs.TileView.{TileState, TileView}
 use Rattle.tn_tile.proofs.Fresh.{fresh_shaped, none_ended}
 use Rattle.tn_tile.proofs.tile.Tile.of.Goals as goal
-
-pub start_of-requires-clause-alive : goal.start_of-requires-clause-alive
-start_of-requires-clause-alive c = none_ended c.args.shape.now c.args.tile.0 c.args.threads.items c.requires.threads
 
 pub all_ready-ready-requires : goal.all_ready-ready-requires
 all_ready-ready-requires c =
@@ -22,4 +20,5 @@ invariant_of-result c =
       shaped = subst WellShaped (sym same) (fresh_shaped c.args.shape.now c.args.tile.0 c.args.code.now c.args.threads.items c.requires.tile c.requires.threads);
       few = c.all_ready-ready.ensures.few;
       ready = c.all_ready-ready.ensures.marks;
+      dead = c.of-2.ensures ∙ sym (none_ended c.args.shape.now c.args.tile.0 c.args.threads.items c.requires.threads) ∙ ap (λ (s : TileState). dead_in s.threads) (sym c.in_ok-state.ensures);
     }

@@ -1,5 +1,6 @@
-use Rattle.std.proofs.Common.{ap}
+use Rattle.std.proofs.Common.{ap, sym, ◌∙◌}
 use Rattle.tn_node.specs.declared.node.Node.{Node}
+use Rattle.tn_tile.proofs.Dead.{dead_told}
 use Rattle.tn_tile.proofs.Known.{told_fits}
 use Rattle.tn_tile.proofs.tile.Tile.release.Goals as goal
 
@@ -14,4 +15,5 @@ invariant_of-self c = record {
   };
   few = c.self.invariant.few;
   ready = c.all_ready-self-inside.ensures.marks;
+  dead = rw c.tell.ensures (c.self.invariant.dead ∙ sym (dead_told c.self.inside.state.threads c.args.value));
 }
