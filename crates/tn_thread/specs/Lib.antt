@@ -1,4 +1,5 @@
 pub mod Alone
+pub mod Asks
 pub mod Command
 pub mod Fits
 pub mod Memory

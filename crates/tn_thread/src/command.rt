@@ -4,6 +4,7 @@ ghost use Rattle.std.specs.Prelude.{true, ◌≡◌, ◌<◌, ◌+◌, ◌^◌};
 ghost use Rattle.tn_base.specs.declared.message.Dest.TheVariants as dest;
 ghost use Rattle.tn_thread.specs.Command.{FitsCommand, commanded, given_up, handed, sent_by, sent_off, stays};
 ghost use Rattle.tn_thread.specs.Fits.{StepFits};
+ghost use Rattle.tn_thread.specs.Step.{trapped};
 
 use crate::state::{Target, ThreadState, WaitSet};
 use crate::thread::Thread;
@@ -80,8 +81,17 @@ impl Thread {
                 self.state = ThreadState::Dead(0);
                 self.stay(Op::Kill(0))
             }
-            Command::Trap(why) => self.trap(why),
+            Command::Trap(why) => self.refuse(why),
         }
+    }
+
+    /// Traps.
+    fn refuse(&mut self, why: Trap) -> Op
+        requires { self.old.steps + 1 < 2 ^ 32 }
+        ensures { record { thread = self.new; op = result } ≡ trapped why self.old }
+    {
+        let ask = self.trap(why);
+        self.op_of(ask)
     }
 
     /// Counts the step, and stays at the address.
@@ -100,7 +110,7 @@ impl Thread {
         ensures { record { thread = self.new; op = result } ≡ handed (V.sight view.now).first self.old }
     {
         if view.first().is_none() {
-            return self.trap(Trap::RecvEmpty);
+            return self.refuse(Trap::RecvEmpty);
         }
         self.stay(Op::Hand)
     }
@@ -122,7 +132,7 @@ impl Thread {
         ensures { record { thread = self.new; op = result } ≡ sent_off dest (V.sight view.now) self.old }
     {
         if !view.can_send() {
-            return self.trap(Trap::SendBusy);
+            return self.refuse(Trap::SendBusy);
         }
         self.sends = self.sends.wrapping_add(1);
         let message = self.out.message();
@@ -135,7 +145,7 @@ impl Thread {
         ensures { record { thread = self.new; op = result } ≡ given_up slot (V.sight view.now) self.old }
     {
         if view.held(slot).is_none() {
-            return self.trap(Trap::BadFree);
+            return self.refuse(Trap::BadFree);
         }
         self.stay(Op::Free(slot))
     }

@@ -1,12 +1,15 @@
 //! One step of a thread.
 
 ghost use Rattle.std.specs.Prelude.{◌≡◌, ◌≤◌, ◌<◌, ◌+◌, ◌*◌, ◌%◌, ◌==◌, ◌^◌, ◌≢◌, IsTrue};
+ghost use Rattle.tn_base.specs.declared.op.Op.TheVariants as op;
+ghost use Rattle.tn_thread.specs.Asks.{asks, op_of};
 ghost use Rattle.tn_thread.specs.Fits.{StepFits};
 ghost use Rattle.tn_base.specs.Effects.{is_width};
 ghost use Rattle.tn_thread.specs.Memory.{extended, sign_filled, value_at};
 ghost use Rattle.tn_thread.specs.Registers.{register_of};
 ghost use Rattle.tn_thread.specs.Step.{FitsStep, IsWithin, Stepped, answered, completed, dest_of, freed, got, is_idle, loaded, place_of, read_by, resumed, runnable, sent, stepped, stored, trapped, went, went_to, write_by, write_row};
 
+use crate::ask::Ask;
 use crate::memory::value_at as bytes_value;
 use crate::place::Place;
 use crate::register::Register;
@@ -51,7 +54,8 @@ impl Thread {
         ensures step { record { thread = self.new; op = result } ≡ stepped effect (V.sight view.now) self.old }
         ensures fits { StepFits (V.sight view.now) self.old (record { thread = self.new; op = result }) }
     {
-        self.act(effect, view)
+        let ask = self.act(effect, view);
+        self.op_of(ask)
     }
 
     /// The completion of a wait or an idle: an idle reads its answer into its register.
@@ -62,7 +66,8 @@ impl Thread {
         ensures step { record { thread = self.new; op = result } ≡ resumed self.old }
         ensures fits { StepFits (V.sight view.now) self.old (record { thread = self.new; op = result }) }
     {
-        self.wake()
+        let ask = self.wake();
+        self.op_of(ask)
     }
 
     /// Tells a thread that is idle that the machine is at rest.
@@ -75,15 +80,21 @@ impl Thread {
 
     /// The effect of an instruction.
     #[inline(always)]
-    fn act<V: View>(&mut self, effect: Effect, view: &V) -> Op
+    fn act<V: View>(&mut self, effect: Effect, view: &V) -> Ask
         requires fuel { self.old.steps < self.old.shape.fuel }
         requires fits { FitsStep effect }
-        ensures { record { thread = self.new; op = result } ≡ stepped effect (V.sight view.now) self.old }
+        ensures { asks result self.new ≡ stepped effect (V.sight view.now) self.old }
     {
         let _limits = self.shape.numbers();
         match effect {
-            Effect::Next => self.go_on(Op::None),
-            Effect::Jump(target) => self.go_to(target, Op::None),
+            Effect::Next => {
+                self.go_on();
+                Ask::None
+            }
+            Effect::Jump(target) => {
+                self.go_to(target);
+                Ask::None
+            }
             Effect::Load {
                 rd,
                 addr,
@@ -98,9 +109,9 @@ impl Thread {
     }
 
     /// The completion of a wait or an idle; a thread in another state stays.
-    fn wake(&mut self) -> Op
+    fn wake(&mut self) -> Ask
         requires { self.old.steps < self.old.shape.fuel }
-        ensures { record { thread = self.new; op = result } ≡ resumed self.old }
+        ensures { asks result self.new ≡ resumed self.old }
     {
         let _limits = self.shape.numbers();
         match self.state {
@@ -108,66 +119,81 @@ impl Thread {
                 self.state = ThreadState::Run;
                 self.steps += 1;
                 self.given = 0;
-                Op::None
+                Ask::None
             }
             ThreadState::Idle(_) => self.complete(0),
             ThreadState::Answered(value) => self.complete(value),
-            ThreadState::Run | ThreadState::Dead(_) | ThreadState::Trapped(_) => Op::None,
+            ThreadState::Run | ThreadState::Dead(_) | ThreadState::Trapped(_) => Ask::None,
         }
     }
 
     /// Reads the answer of an idle, and runs on.
-    fn complete(&mut self, value: u32) -> Op
+    fn complete(&mut self, value: u32) -> Ask
         requires { self.old.steps + 1 < 2 ^ 32 }
-        ensures { record { thread = self.new; op = result } ≡ completed value self.old }
+        ensures { asks result self.new ≡ completed value self.old }
     {
         self.regs.set(self.answer_to.register(), value);
         self.state = ThreadState::Run;
         self.steps += 1;
         self.given = if value == 1 || value == 2 { value } else { 0 };
-        Op::None
+        Ask::None
     }
 
     /// Goes on at an address.
     #[inline(always)]
-    fn go_to(&mut self, target: u32, op: Op) -> Op
+    fn go_to(&mut self, target: u32)
         requires { self.old.steps + 1 < 2 ^ 32 }
-        ensures { record { thread = self.new; op = result } ≡ went_to target self.old op }
+        ensures { self.new ≡ (went_to target self.old op.None).thread }
     {
         self.pc = target;
         self.steps += 1;
         self.given = 0;
-        op
     }
 
     /// Goes on behind the instruction.
     #[inline(always)]
-    fn go_on(&mut self, op: Op) -> Op
+    fn go_on(&mut self)
         requires { self.old.steps + 1 < 2 ^ 32 }
-        ensures { record { thread = self.new; op = result } ≡ went self.old op }
+        ensures { self.new ≡ (went self.old op.None).thread }
     {
-        self.go_to(self.pc.wrapping_add(4), op)
+        self.go_to(self.pc.wrapping_add(4));
     }
 
     /// Reads a value into a register, and goes on.
     #[inline(always)]
-    fn finish_read(&mut self, rd: u8, value: u32, op: Op) -> Op
+    fn finish_read(&mut self, rd: u8, value: u32)
         requires room { self.old.steps + 1 < 2 ^ 32 }
         requires rd { rd < 32 }
-        ensures { record { thread = self.new; op = result } ≡ got rd value op self.old }
+        ensures { self.new ≡ (got rd value op.None self.old).thread }
     {
         self.regs.set(rd, value);
-        self.go_on(op)
+        self.go_on();
+    }
+
+    /// What the thread asks of its tile, with the message of a send.
+    #[inline(always)]
+    pub(crate) fn op_of(&self, ask: Ask) -> Op
+        ensures { result ≡ op_of ask self.now }
+    {
+        match ask {
+            Ask::None => Op::None,
+            Ask::Send(dest) => Op::Send(dest, self.out.message()),
+            Ask::Hand => Op::Hand,
+            Ask::Free(slot) => Op::Free(slot),
+            Ask::Idle(vote) => Op::Idle(vote),
+            Ask::Kill(value) => Op::Kill(value),
+            Ask::Trap(trap) => Op::Trap(trap),
+        }
     }
 
     /// Traps.
-    pub(crate) fn trap(&mut self, trap: Trap) -> Op
+    pub(crate) fn trap(&mut self, trap: Trap) -> Ask
         requires { self.old.steps + 1 < 2 ^ 32 }
-        ensures { record { thread = self.new; op = result } ≡ trapped trap self.old }
+        ensures { asks result self.new ≡ trapped trap self.old }
     {
         self.state = ThreadState::Trapped(trap);
         self.steps += 1;
-        Op::Trap(trap)
+        Ask::Trap(trap)
     }
 
     /// What `width` bytes from an address on are.
@@ -197,25 +223,28 @@ impl Thread {
 
     /// A load of a byte, a halfword or a word.
     #[inline(always)]
-    fn load<V: View>(&mut self, rd: u8, addr: u32, width: u8, signed: bool, view: &V) -> Op
+    fn load<V: View>(&mut self, rd: u8, addr: u32, width: u8, signed: bool, view: &V) -> Ask
         requires room { self.old.steps + 1 < 2 ^ 32 }
         requires rd { rd < 32 }
         requires width { IsTrue (is_width width) }
-        ensures { record { thread = self.new; op = result } ≡ loaded rd addr width signed (V.sight view.now) self.old }
+        ensures { asks result self.new ≡ loaded rd addr width signed (V.sight view.now) self.old }
     {
         match self.place(addr, width) {
             Place::Private(at) => {
                 let value = self.mem.value_at(at as usize, width);
-                self.finish_read(rd, extend(width, signed, value), Op::None)
+                self.finish_read(rd, extend(width, signed, value));
+                Ask::None
             }
             Place::SendSlot(at) => {
                 let value = self.out.value_at(at as usize, width);
-                self.finish_read(rd, extend(width, signed, value), Op::None)
+                self.finish_read(rd, extend(width, signed, value));
+                Ask::None
             }
             Place::Received(slot, at) => match view.held(slot) {
                 Some(message) => {
                     let value = message_value(message, at as usize, width);
-                    self.finish_read(rd, extend(width, signed, value), Op::None)
+                    self.finish_read(rd, extend(width, signed, value));
+                    Ask::None
                 }
                 None => self.trap(Trap::BadAddress),
             },
@@ -226,19 +255,21 @@ impl Thread {
 
     /// A store of a byte, a halfword or a word.
     #[inline(always)]
-    fn store(&mut self, addr: u32, width: u8, value: u32) -> Op
+    fn store(&mut self, addr: u32, width: u8, value: u32) -> Ask
         requires room { self.old.steps + 1 < 2 ^ 32 }
         requires width { IsTrue (is_width width) }
-        ensures { record { thread = self.new; op = result } ≡ stored addr width value self.old }
+        ensures { asks result self.new ≡ stored addr width value self.old }
     {
         match self.place(addr, width) {
             Place::Private(at) => {
                 self.mem.write(at as usize, width, value);
-                self.go_on(Op::None)
+                self.go_on();
+                Ask::None
             }
             Place::SendSlot(at) => {
                 self.out.write(at as usize, width, value);
-                self.go_on(Op::None)
+                self.go_on();
+                Ask::None
             }
             Place::Misaligned => self.trap(Trap::Misaligned),
             Place::Received(_, _) | Place::Nowhere => self.trap(Trap::BadAddress),
@@ -246,10 +277,10 @@ impl Thread {
     }
 
     /// A read of a control register.
-    fn read<V: View>(&mut self, rd: u8, csr: u16, view: &V) -> Op
+    fn read<V: View>(&mut self, rd: u8, csr: u16, view: &V) -> Ask
         requires room { self.old.steps + 1 < 2 ^ 32 }
         requires rd { rd < 32 }
-        ensures { record { thread = self.new; op = result } ≡ read_by (register_of csr) rd (V.sight view.now) self.old }
+        ensures { asks result self.new ≡ read_by (register_of csr) rd (V.sight view.now) self.old }
     {
         let Some(register) = Register::of(csr) else {
             return self.trap(Trap::BadCsr);
@@ -258,26 +289,39 @@ impl Thread {
             return self.trap(Trap::BadCsr);
         }
         match register {
-            Register::HartId => self.finish_read(rd, self.id.0, Op::None),
-            Register::CanSend => self.finish_read(rd, u32::from(view.can_send()), Op::None),
-            Register::CanRecv => self.finish_read(rd, u32::from(view.first().is_some()), Op::None),
+            Register::HartId => {
+                self.finish_read(rd, self.id.0);
+                Ask::None
+            }
+            Register::CanSend => {
+                self.finish_read(rd, u32::from(view.can_send()));
+                Ask::None
+            }
+            Register::CanRecv => {
+                self.finish_read(rd, u32::from(view.first().is_some()));
+                Ask::None
+            }
             Register::Recv => match view.first() {
                 Some(slot) => {
                     let address = RECEIVED + self.out.len() as u32 * u32::from(slot);
-                    self.finish_read(rd, address, Op::Hand)
+                    self.finish_read(rd, address);
+                    Ask::Hand
                 }
                 None => self.trap(Trap::RecvEmpty),
             },
-            Register::SendSlot => self.finish_read(rd, SEND_SLOT, Op::None),
+            Register::SendSlot => {
+                self.finish_read(rd, SEND_SLOT);
+                Ask::None
+            }
             _ => self.trap(Trap::BadCsr),
         }
     }
 
     /// A write of a control register.
-    fn write<V: View>(&mut self, rd: u8, csr: u16, value: u32, view: &V) -> Op
+    fn write<V: View>(&mut self, rd: u8, csr: u16, value: u32, view: &V) -> Ask
         requires room { self.old.steps + 1 < 2 ^ 32 }
         requires rd { rd < 32 }
-        ensures { record { thread = self.new; op = result } ≡ write_by (register_of csr) rd value (V.sight view.now) self.old }
+        ensures { asks result self.new ≡ write_by (register_of csr) rd value (V.sight view.now) self.old }
     {
         let Some(register) = Register::of(csr) else {
             return self.trap(Trap::BadCsr);
@@ -289,43 +333,50 @@ impl Thread {
     }
 
     /// A write of a control register that may be written.
-    fn write_register<V: View>(&mut self, register: Register, rd: u8, value: u32, view: &V) -> Op
+    fn write_register<V: View>(&mut self, register: Register, rd: u8, value: u32, view: &V) -> Ask
         requires room { self.old.steps + 1 < 2 ^ 32 }
         requires rd { rd < 32 }
-        ensures { record { thread = self.new; op = result } ≡ write_row register rd value (V.sight view.now) self.old }
+        ensures { asks result self.new ≡ write_row register rd value (V.sight view.now) self.old }
     {
         match register {
             Register::SendLen => {
                 self.out.set_last(value);
-                self.go_on(Op::None)
+                self.go_on();
+                Ask::None
             }
             Register::SendDest => {
                 self.dest = value;
-                self.go_on(Op::None)
+                self.go_on();
+                Ask::None
             }
             Register::MaskLow => {
                 self.mask_low = value;
-                self.go_on(Op::None)
+                self.go_on();
+                Ask::None
             }
             Register::MaskHigh => {
                 self.mask_high = value;
-                self.go_on(Op::None)
+                self.go_on();
+                Ask::None
             }
             Register::Send => self.send(value, view),
             Register::Free => self.free(value, view),
             Register::WaitUntil => {
                 self.state = ThreadState::Wait(WaitSet::low_bits_of(value));
-                self.go_on(Op::None)
+                self.go_on();
+                Ask::None
             }
             Register::Idle => {
                 let vote = value != 0;
                 self.state = ThreadState::Idle(vote);
                 self.answer_to = Target::of(rd);
-                self.go_on(Op::Idle(vote))
+                self.go_on();
+                Ask::Idle(vote)
             }
             Register::Kill => {
                 self.state = ThreadState::Dead(value);
-                self.go_on(Op::Kill(value))
+                self.go_on();
+                Ask::Kill(value)
             }
             _ => self.trap(Trap::BadCsr),
         }
@@ -348,9 +399,9 @@ impl Thread {
     }
 
     /// A send of a kind.
-    fn send<V: View>(&mut self, kind: u32, view: &V) -> Op
+    fn send<V: View>(&mut self, kind: u32, view: &V) -> Ask
         requires { self.old.steps + 1 < 2 ^ 32 }
-        ensures { record { thread = self.new; op = result } ≡ sent kind (V.sight view.now) self.old }
+        ensures { asks result self.new ≡ sent kind (V.sight view.now) self.old }
     {
         if !view.can_send() {
             return self.trap(Trap::SendBusy);
@@ -362,14 +413,14 @@ impl Thread {
             return self.trap(Trap::BadDest);
         }
         self.sends = self.sends.wrapping_add(1);
-        let message = self.out.message();
-        self.go_on(Op::Send(dest, message))
+        self.go_on();
+        Ask::Send(dest)
     }
 
     /// Gives up the slot at an address.
-    fn free<V: View>(&mut self, addr: u32, view: &V) -> Op
+    fn free<V: View>(&mut self, addr: u32, view: &V) -> Ask
         requires { self.old.steps + 1 < 2 ^ 32 }
-        ensures { record { thread = self.new; op = result } ≡ freed addr (V.sight view.now) self.old }
+        ensures { asks result self.new ≡ freed addr (V.sight view.now) self.old }
     {
         let size = self.out.len() as u32;
         if addr < RECEIVED || (addr - RECEIVED) / size >= 65536 || (addr - RECEIVED) % size != 0 {
@@ -379,7 +430,8 @@ impl Thread {
         if view.held(slot).is_none() {
             return self.trap(Trap::BadFree);
         }
-        self.go_on(Op::Free(slot))
+        self.go_on();
+        Ask::Free(slot)
     }
 }
 
