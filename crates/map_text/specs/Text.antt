@@ -1,5 +1,5 @@
 -- What is written of a graph that was placed and routed.
-use Rattle.std.specs.Prelude.{ℕ, ◌==◌, List, [], ◌∷◌, ◌++◌, codes, decimal, flat_map, length, slice_index_or, if◌then◌else◌}
+use Rattle.std.specs.Prelude.{ℕ, ◌≡◌, ◌==◌, List, [], ◌∷◌, ◌++◌, codes, decimal, flat_map, length, map, slice_index_or, if◌then◌else◌}
 use Rattle.std.specs.List.{range_with_len}
 use Rattle.tn_base.specs.declared.shape.ShapeNumbers.{ShapeNumbers}
 use Rattle.tn_base.specs.declared.ids.Board.{Board}
@@ -8,6 +8,8 @@ use Rattle.tn_text.specs.Words.{spaced}
 use Rattle.tn_keys.specs.declared.record.RouteRec.{RouteRec}
 use Rattle.tn_keys.specs.Tables.{Table, table_of}
 use Rattle.tn_keys.specs.Written.{written}
+use Rattle.job_text.specs.declared.job.BeatLine.{BeatLine}
+use Rattle.job_text.specs.declared.job.TableSection.{TableSection}
 use Rattle.graph_text.specs.declared.graph.Graph.{Graph}
 use Rattle.graph_text.specs.Text.{vertex_names}
 use Rattle.polite_place.specs.declared.placement.Seat.{Seat}
@@ -69,3 +71,7 @@ tables_text n tables = flat_map (row_text n tables) (range_with_len 0 n.boards_y
 -- the places of the vertices, then the tables of the boards
 abbrev pub map_text : Graph → List Seat → ShapeNumbers → List Table → List ℕ
 map_text graph placement n tables = places_text graph placement ++ tables_text n tables
+
+-- the lines of a job's section have the bytes of these beats
+abbrev pub HasBeats : TableSection → Table → Type 0
+HasBeats section table = map (λ (line : BeatLine). line.bytes) section.beats ≡ map written table
