@@ -2,7 +2,7 @@
 use Rattle.std.proofs.Common.{ℕ, ◌≡◌, ◌≤◌, ◌<◌, ◌+◌, ◌||◌, ◌∷◌, [], Bool, true, false, not, IsTrue, List, Option, Some, None, length, map, nat_lt, option_map, inl, inr, zero, suc, refl, subst, arith, if◌then◌else◌}
 use Rattle.std.specs.List.{AllByRecursion, list_any, range_with_len}
 use Rattle.std.specs.declared.result.Result.{Result}
-use Rattle.std.specs.declared.result.Result.TheVariants.{Ok}
+use Rattle.std.specs.declared.result.Result.TheVariants.{Ok, Err}
 use Rattle.std.proofs.lemmas.Bool.{cases_eq}
 use Rattle.std.proofs.lemmas.Bool.Decides.{nat_tests}
 use Rattle.tn_base.specs.declared.part.Kind.{Kind}
@@ -19,14 +19,16 @@ use Rattle.job_load.specs.declared.fault.FaultName.TheVariants as fault
 use Rattle.job_load.specs.declared.fault.LoadFault.{LoadFault}
 use Rattle.job_load.specs.Code.{code_of, is_empty, lacks_code}
 use Rattle.job_load.specs.Assembly.{sections_of}
-use Rattle.job_load.specs.Faults.{asm_fault, beat_fault, beat_lines, fault_at, fill_fault, has_board, missing_fault, number_fault, place_fault, section_fault, shape_line, unbuilt_fault}
+use Rattle.job_load.specs.Faults.{asm_fault, beat_fault, beat_lines, fault_at, fill_fault, has_board, missing_fault, number_fault, place_fault, section_fault, shape_line, unbuilt_fault, unbuilt_line}
 use Rattle.job_load.specs.Images.{IsWithin}
 use Rattle.job_load.specs.Laws.{IsFreshPart, IsStart}
-use Rattle.job_load.specs.Loaded.{loaded, unless}
+use Rattle.job_load.specs.Loaded.{load_fault, loaded, unless}
+use Rattle.job_load.specs.Mapping.{graph_fault}
+use Rattle.job_load.specs.Mixed.{mixed_fault}
 use Rattle.job_load.specs.Start.{part_start, start_of}
 use Rattle.job_load.specs.Tables.{table_fault}
 use Rattle.job_load.proofs.Boards.{faultless}
-use Rattle.job_load.proofs.Faults.{none_soonest}
+use Rattle.job_load.proofs.Faults.{none_soonest, or_neither}
 use Rattle.job_load.proofs.Starts.{fill_within, nothing_found, start_is_world}
 
 passes : (f : Option LoadFault) (others : Result WorldView LoadFault) (w : WorldView) → unless f others ≡ Ok w → (f ≡ None) × (others ≡ Ok w)
@@ -109,14 +111,39 @@ start_by job numbers sections missing tables =
       fresh = fresh_parts job (parts job.numbers);
     }
 
+-- where no test finds a fault, each one says so
+pub record Faultless (job : Job) : Type 0 where
+  pub numbers : number_fault job ≡ None
+  pub mixed : mixed_fault job ≡ None
+  pub assembly : asm_fault job ≡ None
+  pub graph : graph_fault job ≡ None
+  pub sections : section_fault job ≡ None
+  pub missing : missing_fault job ≡ None
+  pub tables : table_fault job ≡ None
+
+pub each_none : (job : Job) → load_fault job ≡ None → Faultless job
+each_none job e =
+    let one = or_neither (number_fault job) _ e in
+    let two = or_neither (mixed_fault job) _ one.1 in
+    let three = or_neither (asm_fault job) _ two.1 in
+    let four = or_neither (graph_fault job) _ three.1 in
+    let five = or_neither (section_fault job) _ four.1 in
+    let six = or_neither (missing_fault job) (table_fault job) five.1 in
+    record { numbers = one.0; mixed = two.0; assembly = three.0; graph = four.0; sections = five.0; missing = six.0; tables = six.1 }
+
 pub accepted : (job : Job) (w : WorldView) → loaded job ≡ Ok w → IsStart job w
 accepted job w e =
-    let one = passes (number_fault job) _ w e in
-    let two = passes (unbuilt_fault job) _ w one.1 in
-    let three = passes (asm_fault job) _ w two.1 in
-    let four = passes (section_fault job) _ w three.1 in
-    let five = passes (missing_fault job) _ w four.1 in
-    let six = passes (table_fault job) (Ok (start_of job)) w five.1 in
+    let one = passes (load_fault job) (unless (unbuilt_fault job) (Ok (start_of job))) w e in
+    let two = passes (unbuilt_fault job) (Ok (start_of job)) w one.1 in
+    let none = each_none job one.0 in
     let same : start_of job ≡ w = cc in
     let P : WorldView → Type 0 = λ v. IsStart job v in
-    subst P same (start_by job one.0 four.0 five.0 six.0)
+    subst P same (start_by job none.numbers none.sections none.missing none.tables)
+
+-- any other fault refuses a job before what is not there yet
+pub unbuilt_last : (job : Job) (f : LoadFault) → load_fault job ≡ Some f → loaded job ≡ Err f
+unbuilt_last job f e = rw e refl
+
+-- and where there is no other, what is not there yet refuses it
+pub unbuilt_refuses : (job : Job) (line : ℕ) → load_fault job ≡ None → unbuilt_line job ≡ Some line → loaded job ≡ Err (fault_at line fault.UnsupportedYet)
+unbuilt_refuses job line none e = rw (none, e) refl

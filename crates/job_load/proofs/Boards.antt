@@ -29,6 +29,7 @@ use Rattle.job_text.specs.WellFormed.{IsTable}
 use Rattle.job_load.specs.declared.fault.LoadFault.{LoadFault}
 use Rattle.job_load.specs.Faults.{beat_from}
 use Rattle.job_load.specs.Tables.{beats_of, first_found, is_of, section_for, table_by, table_fault, table_for, tables_of, told_at}
+use Rattle.job_load.proofs.Faults.{or_neither}
 use Rattle.job_load.proofs.Named.{all_at, all_mapped}
 use Rattle.job_load.proofs.Ranges.{all_mapped as mapped_done, more_mapped}
 
@@ -130,10 +131,6 @@ none_told : (f : ℕ → Option TableFault) (s : ℕ → Option TableSection) (a
 none_told f s a zero none = refl
 none_told f s a (suc count) none = rw (none a (omega arith), told_none (s a)) (none_told f s (a + 1) count (λ j less. none j (omega arith)))
 
-neither : (a b : Option LoadFault) → option_or a b ≡ None → (a ≡ None) × (b ≡ None)
-neither None b e = (refl, e)
-neither (Some x) b e = absurd cc
-
 untold : (t : Option TableSection) (o : Option TableFault) → (t ≡ None → o ≡ None) → told_at t o ≡ None → o ≡ None
 untold None o quiet h = quiet refl
 untold (Some t) None quiet h = refl
@@ -143,7 +140,7 @@ none_at : (f : ℕ → Option TableFault) (s : ℕ → Option TableSection) (a c
     first_found (λ j. told_at (s j) (f j)) (range_with_len a count) ≡ None → a ≤ i → i < a + count → f i ≡ None
 none_at f s a zero i quiet h low high = absurd (omega arith)
 none_at f s a (suc count) i quiet h low high =
-    let both = neither (told_at (s a) (f a)) (first_found (λ j. told_at (s j) (f j)) (range_with_len (a + 1) count)) h in
+    let both = or_neither (told_at (s a) (f a)) (first_found (λ j. told_at (s j) (f j)) (range_with_len (a + 1) count)) h in
     elim (cases_eq a i) [
       | inl same ↦ ap f (sym same) ∙ untold (s a) (f a) (quiet a (omega arith)) both.0
       | inr other ↦ none_at f s (a + 1) count i (λ j less. quiet j (omega arith)) both.1 (omega arith) (omega arith)

@@ -1,6 +1,7 @@
 -- The first fault, and the first section of an owner.
 use Rattle.std.proofs.Common.{ℕ, ◌≡◌, ◌≤◌, ◌<◌, ◌+◌, ◌++◌, ◌∷◌, [], Bool, true, false, List, length, drop, get_or, nat_lt, if◌then◌else◌, refl, arith, None, Some, Option}
 use Rattle.std.specs.List.{AllByRecursion}
+use Rattle.std.specs.Option.{option_or}
 use Rattle.std.proofs.lemmas.Bool.Decides.{nat_tests}
 use Rattle.std.proofs.lemmas.List.{drop_all}
 use Rattle.std.specs.declared.result.Result.TheVariants.{Ok}
@@ -72,6 +73,11 @@ pub sooner_neither : (a b : Option LoadFault) → sooner a b ≡ None → (a ≡
 sooner_neither None b e = (refl, e)
 sooner_neither (Some a) None e = absurd cc
 sooner_neither (Some a) (Some b) e = absurd (no_choice (nat_lt b.line a.line) a b e)
+
+-- where neither of two tests finds a fault, each one says so
+pub or_neither : (a b : Option LoadFault) → option_or a b ≡ None → (a ≡ None) × (b ≡ None)
+or_neither None b e = (refl, e)
+or_neither (Some x) b e = absurd cc
 
 -- four tests find nothing
 pub record NoneFound (a b c d : Option LoadFault) : Type 0 where

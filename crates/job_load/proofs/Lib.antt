@@ -5,6 +5,7 @@ pub mod Faults
 pub mod First
 pub mod Images
 pub mod Least
+pub mod Maps
 pub mod Memory
 pub mod Named
 pub mod Ranges

@@ -1,10 +1,13 @@
 pub mod Assembly
+pub mod Checked
 pub mod Code
 pub mod Faults
 pub mod Gives
 pub mod Images
 pub mod Laws
 pub mod Loaded
+pub mod Mapping
+pub mod Mixed
 pub mod Names
 pub mod Start
 pub mod Tables

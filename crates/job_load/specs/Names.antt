@@ -9,6 +9,8 @@ use Rattle.tn_keys.specs.declared.beat.BeatFault.{BeatFault}
 use Rattle.tn_keys.specs.declared.beat.BeatFault.TheVariants as beat
 use Rattle.tn_keys.specs.declared.fault.TableFault.{TableFault}
 use Rattle.tn_keys.specs.declared.fault.TableFault.TheVariants as table
+use Rattle.graph_text.specs.declared.graph.GraphKind.{GraphKind}
+use Rattle.graph_text.specs.declared.graph.GraphKind.TheVariants as graph
 use Rattle.job_text.specs.declared.job.JobKind.{JobKind}
 use Rattle.job_text.specs.declared.job.JobKind.TheVariants as text
 use Rattle.job_load.specs.declared.fault.FaultName.{FaultName}
@@ -53,6 +55,19 @@ name_of_asm asm.TooMany = fault.TooMany
 
 abbrev pub fault_of_asm : Fault AsmKind → LoadFault
 fault_of_asm found = record { line = found.line; kind = name_of_asm found.kind }
+
+-- a text that is no graph
+abbrev pub name_of_graph : GraphKind → FaultName
+name_of_graph graph.BadLine = fault.BadLine
+name_of_graph graph.BadNumber = fault.BadNumber
+name_of_graph graph.Twice = fault.Twice
+name_of_graph graph.NoKind = fault.NoKind
+name_of_graph graph.NoVertex = fault.NoVertex
+name_of_graph graph.NoPin = fault.NoPin
+name_of_graph graph.TooMany = fault.TooMany
+
+abbrev pub fault_of_graph : Fault GraphKind → LoadFault
+fault_of_graph found = record { line = found.line; kind = name_of_graph found.kind }
 
 -- bytes that are no beat
 abbrev pub name_of_beat : BeatFault → FaultName

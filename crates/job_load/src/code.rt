@@ -11,7 +11,7 @@ use job_text::job::{CodeSection, Job, Owner};
 use tn_base::ids::TileId;
 use tn_base::shape::Shape;
 
-fn is_all(owner: Owner) -> bool
+pub(crate) fn is_all(owner: Owner) -> bool
     ensures { result ≡ is_all owner }
 {
     matches!(owner, Owner::All)

@@ -1,9 +1,10 @@
 //! Why a job makes no machine.
 
 ghost use Rattle.std.specs.Prelude.{◌≡◌};
-ghost use Rattle.job_load.specs.Names.{fault_of_asm, fault_text, name_of_asm, name_of_beat, name_of_number, name_of_table, name_of_text};
+ghost use Rattle.job_load.specs.Names.{fault_of_asm, fault_of_graph, fault_text, name_of_asm, name_of_beat, name_of_graph, name_of_number, name_of_table, name_of_text};
 
 use asm_text::fault::{AsmFault, AsmKind};
+use graph_text::graph::{GraphFault, GraphKind};
 use job_text::job::JobKind;
 use std::alloc::AllocError;
 use tn_base::shape::ShapeFault;
@@ -89,6 +90,16 @@ impl LoadFault {
             kind: FaultName::of_asm(fault.kind),
         }
     }
+
+    /// The fault for which a text is no graph.
+    pub fn of_graph(fault: GraphFault) -> LoadFault
+        ensures { result ≡ fault_of_graph fault }
+    {
+        LoadFault {
+            line: fault.line,
+            kind: FaultName::of_graph(fault.kind),
+        }
+    }
 }
 
 /// Why there is no machine.
@@ -158,6 +169,21 @@ impl FaultName {
             AsmKind::Twice => FaultName::Twice,
             AsmKind::NoLabel => FaultName::NoLabel,
             AsmKind::TooMany => FaultName::TooMany,
+        }
+    }
+
+    /// The name of a fault for which a text is no graph.
+    pub fn of_graph(kind: GraphKind) -> FaultName
+        ensures { result ≡ name_of_graph kind }
+    {
+        match kind {
+            GraphKind::BadLine => FaultName::BadLine,
+            GraphKind::BadNumber => FaultName::BadNumber,
+            GraphKind::Twice => FaultName::Twice,
+            GraphKind::NoKind => FaultName::NoKind,
+            GraphKind::NoVertex => FaultName::NoVertex,
+            GraphKind::NoPin => FaultName::NoPin,
+            GraphKind::TooMany => FaultName::TooMany,
         }
     }
 

@@ -1,23 +1,28 @@
 //! Laws of the definitions by which jobs are loaded. A law answers nothing: its contract is what it says.
 
-ghost use Rattle.std.specs.Prelude.{◌≡◌, ℕ, List};
+ghost use Rattle.std.specs.Prelude.{◌≡◌, ℕ, Err, List, None, Ok, Some};
 ghost use Rattle.std.specs.List.{AllByRecursion};
 ghost use Rattle.tn_rows.specs.WorldView.{WorldView};
 ghost use Rattle.job_text.specs.declared.job.FillLine.{FillLine};
 ghost use Rattle.job_text.specs.declared.job.Job.{Job};
-ghost use Rattle.job_load.specs.Faults.{section_fault, unbuilt_line};
+ghost use Rattle.job_load.specs.declared.fault.FaultName.TheVariants as fault;
+ghost use Rattle.job_load.specs.declared.fault.LoadFault.{LoadFault};
+ghost use Rattle.job_load.specs.Faults.{fault_at, section_fault, unbuilt_line};
 ghost use Rattle.job_load.specs.Images.{IsWithin};
 ghost use Rattle.job_load.specs.Laws.{IsFirst, IsLeast, IsMemory, IsStart, section_faults, unbuilt_lines};
-ghost use Rattle.job_load.specs.Loaded.{loaded};
+ghost use Rattle.job_load.specs.Loaded.{load_fault, loaded};
 
 /// Of all faults of sections the one that refuses a job stands on the first line.
 pub fn law_sections()
     ensures { (job : Job) → IsFirst (section_fault job) (section_faults job) }
 {}
 
-/// Of all lines that give what the machine does not have yet the first one refuses the job.
+/// Of all lines that give what the machine does not have yet the first one refuses the job, if no fault does. Any fault
+/// refuses the job before.
 pub fn law_unbuilt()
-    ensures { (job : Job) → IsLeast (unbuilt_line job) (unbuilt_lines job) }
+    ensures first { (job : Job) → IsLeast (unbuilt_line job) (unbuilt_lines job) }
+    ensures refuses { (job : Job) (line : ℕ) → load_fault job ≡ None → unbuilt_line job ≡ Some line → loaded job ≡ Err (fault_at line fault.UnsupportedYet) }
+    ensures last { (job : Job) (found : LoadFault) → load_fault job ≡ Some found → loaded job ≡ Err found }
 {}
 
 /// A job that is accepted gives a machine in which nothing has happened.

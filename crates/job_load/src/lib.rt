@@ -5,11 +5,15 @@
 #![tactic(auto)]
 
 mod assembly;
+mod check;
 mod code;
 pub mod fault;
 mod image;
 pub mod laws;
 pub mod load;
+pub mod map;
+mod mapping;
+mod mixed;
 mod numbers;
 mod sections;
 mod start;

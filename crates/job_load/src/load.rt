@@ -6,44 +6,29 @@ ghost use Rattle.job_text.specs.WellFormed.{IsWellFormed};
 ghost use Rattle.job_load.specs.Gives.{Gives};
 ghost use Rattle.job_load.specs.Loaded.{loaded};
 
-use crate::assembly::assemble_all;
-use crate::code::missing_fault;
+use crate::check::{Checked, check};
 use crate::fault::LoadStop;
-use crate::numbers::shape_of;
-use crate::sections::section_fault;
 use crate::start::start_of;
-use crate::tables::table_fault;
 use crate::unbuilt::unbuilt_fault;
 use job_text::job::Job;
 use std::alloc::Global;
 use tn_link::plain::PlainLink;
 use tn_world::world::World;
 
-/// The machine of a job at its start, or the first fault: a number outside its limits; what the machine does not have
-/// yet, the first in order of lines; a section that is no assembly, at its first line at fault; a section that names what
-/// the machine does not have, or a beat that is none, the first in order of lines; a tile without code; a table that leads
-/// nowhere or too far, of the first board. At the start no thread has made a step, no message stands anywhere, none was
-/// dropped, and no part tells an end (`laws::law_start`).
+/// The machine of a job at its start, or the first fault: a number outside its limits; a graph beside what no graph goes
+/// with; a section that is no assembly, at its first line at fault; a text that is no graph, at its first line at fault;
+/// more vertices than the threads take, then too many keys, then too many beats, at the graph's line; a section that names
+/// what the machine does not have, or a beat that is none, the first in order of lines; a tile without code; a table that
+/// leads nowhere or too far, of the first board; and last what the machine does not have yet, the first in order of lines.
+/// At the start no thread has made a step, no message stands anywhere, none was dropped, and no part tells an end
+/// (`laws::law_start`).
 pub fn load(alloc: Global, job: &Job) -> Result<World<PlainLink>, LoadStop>
     requires formed { IsWellFormed job.now }
     requires numbered { AreNumbered job.now }
     ensures { Gives result (loaded job.now) }
 {
-    let shape = match shape_of(job) {
-        Ok(shape) => shape,
-        Err(fault) => return Err(LoadStop::Fault(fault)),
-    };
+    let Checked { shape, asms, .. } = check(alloc, job)?;
     if let Some(fault) = unbuilt_fault(job) {
-        return Err(LoadStop::Fault(fault));
-    }
-    let asms = assemble_all(alloc, job.asms.as_slice())?;
-    if let Some(fault) = section_fault(&shape, job, asms.as_slice()) {
-        return Err(LoadStop::Fault(fault));
-    }
-    if let Some(fault) = missing_fault(&shape, job, asms.as_slice()) {
-        return Err(LoadStop::Fault(fault));
-    }
-    if let Some(fault) = table_fault(alloc, &shape, job)? {
         return Err(LoadStop::Fault(fault));
     }
     Ok(start_of(alloc, &shape, job, asms.as_slice())?)

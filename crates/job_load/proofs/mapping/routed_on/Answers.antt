@@ -1,0 +1,8 @@
+use Rattle.job_load.proofs.Maps.{places_off, routes_on}
+use Rattle.job_load.proofs.mapping.routed_on.Goals as goal
+
+pub routes-requires-clause-placement : goal.routes-requires-clause-placement
+routes-requires-clause-placement c = places_off c.args.placement.now c.args.shape.now c.args.graph.now c.requires.placement
+
+pub returns : goal.returns
+returns c = routes_on c.routes.result c.args.shape.now c.args.graph.now c.args.placement.now c.routes.ensures.answer

@@ -1,0 +1,24 @@
+-- What a look for faults answers.
+use Rattle.std.specs.Prelude.{◌≡◌, map, None}
+use Rattle.std.specs.declared.result.Result.{Result}
+use Rattle.std.specs.declared.result.Result.TheVariants.{Ok, Err}
+use Rattle.job_text.specs.declared.job.Job.{Job}
+use Rattle.job_load.specs.declared.check.Checked.{Checked}
+use Rattle.job_load.specs.declared.fault.LoadStop.{LoadStop}
+use Rattle.job_load.specs.Assembly.{IsStop, as_code}
+use Rattle.job_load.specs.Faults.{section_fault}
+use Rattle.job_load.specs.Loaded.{load_fault}
+use Rattle.job_load.specs.Mapping.{graph_mapped}
+
+-- the job has no fault, and this is known of it
+pub record IsChecked (job : Job) (checked : Checked) : Type 0 where
+  pub faultless : load_fault job ≡ None
+  pub sections : section_fault job ≡ None
+  pub shape : checked.shape ≡ job.numbers
+  pub asms : checked.asms ≡ map as_code job.asms
+  pub graph : checked.mapped ≡ graph_mapped job
+
+-- what is known of a job without a fault, or the first fault, unless memory ran out
+abbrev pub Checks : Result Checked LoadStop → Job → Type 0
+Checks (Ok checked) job = IsChecked job checked
+Checks (Err stop) job = IsStop stop (load_fault job)

@@ -1,0 +1,160 @@
+//! A job's graph, the places of its vertices, and its routes.
+
+ghost use Rattle.std.specs.Prelude.{◌≡◌, ◌+◌, ◌<◌, ◌^◌, IfOk, Ok, length};
+ghost use Rattle.tn_text.specs.Gives.{Gives as Reads};
+ghost use Rattle.tn_text.specs.Lines.{lines_of};
+ghost use Rattle.graph_text.specs.Graph.{IsGraph};
+ghost use Rattle.polite_place.specs.Seats.{Places};
+ghost use Rattle.polite_routes.specs.Answer.{Routes};
+ghost use Rattle.job_load.specs.Gives.{Gives};
+ghost use Rattle.job_load.specs.Mapping.{Maps, graph_said, has_numbers, mapped_by, placed_as, placed_on, routed_as, routed_on, section_mapped, text_graph};
+
+use crate::fault::{FaultName, LoadFault, LoadStop};
+use crate::map::Mapped;
+use crate::numbers::fault_at;
+use graph_text::graph::{Graph, GraphStop};
+use graph_text::read::read_graph;
+use job_text::job::TextSection;
+use polite_place::placement::{PlaceStop, Placement, place};
+use polite_routes::routes::{RouteSet, routes};
+use polite_routes::target::RouteStop;
+use std::alloc::Global;
+use tn_base::shape::Shape;
+use tn_text::lines::{first_line, law_line_count};
+
+/// How many lines a text has.
+fn count_lines(text: &[u8]) -> usize
+    ensures { result ≡ length (lines_of text.now) }
+{
+    law_line_count(text);
+    let mut count = 0;
+    let mut rest = text;
+    while let Some((_line, after)) = first_line(rest) {
+        count += 1;
+        rest = after;
+    }
+    count
+}
+
+/// Whether each line of a graph's text has a number.
+fn has_numbers(section: &TextSection) -> bool
+    ensures { result ≡ has_numbers section.now }
+{
+    let count = count_lines(section.text.as_slice()) as u64;
+    u64::from(section.line).saturating_add(count) < 4_294_967_296
+}
+
+/// The graph of a text.
+fn text_graph(alloc: Global, section: &TextSection) -> Result<Graph, GraphStop>
+    requires { section.now.line + length (lines_of section.now.text) < 2 ^ 32 }
+    ensures read { Reads result (text_graph section.now) }
+    ensures fits { IfOk result (λ graph. IsGraph graph) }
+{
+    read_graph(alloc, section.text.as_slice(), section.line)
+}
+
+/// The graph that a section says.
+fn graph_said(alloc: Global, section: &TextSection) -> Result<Graph, LoadStop>
+    ensures said { Gives result (graph_said section.now) }
+    ensures fits { IfOk result (λ graph. IsGraph graph) }
+{
+    if !has_numbers(section) {
+        return Err(LoadStop::Fault(fault_at(section.line, FaultName::TooMany)));
+    }
+    match text_graph(alloc, section) {
+        Ok(graph) => Ok(graph),
+        Err(GraphStop::Memory) => Err(LoadStop::Memory),
+        Err(GraphStop::Fault(fault)) => Err(LoadStop::Fault(LoadFault::of_graph(fault))),
+    }
+}
+
+/// The places of a graph's vertices.
+fn placed_on(alloc: Global, shape: &Shape, graph: &Graph) -> Result<Placement, PlaceStop>
+    requires { IsGraph graph.now }
+    ensures { Places result (placed_on shape.now graph.now) }
+{
+    place(alloc, graph, shape)
+}
+
+/// The places of a graph's vertices, or that the threads do not take all vertices, at the graph's line.
+fn place_graph(
+    alloc: Global,
+    shape: &Shape,
+    line: u32,
+    graph: &Graph,
+) -> Result<Placement, LoadStop>
+    requires { IsGraph graph.now }
+    ensures gives { Gives result (placed_as line (placed_on shape.now graph.now)) }
+    ensures placed { IfOk result (λ placement. Ok placement ≡ placed_on shape.now graph.now) }
+{
+    match placed_on(alloc, shape, graph) {
+        Ok(placement) => Ok(placement),
+        Err(PlaceStop::Memory) => Err(LoadStop::Memory),
+        Err(PlaceStop::TooMany) => Err(LoadStop::Fault(fault_at(line, FaultName::TooMany))),
+    }
+}
+
+/// The routes of a graph whose vertices are placed.
+fn routed_on(
+    alloc: Global,
+    shape: &Shape,
+    graph: &Graph,
+    placement: &Placement,
+) -> Result<RouteSet, RouteStop>
+    requires graph { IsGraph graph.now }
+    requires placement { Ok placement.now ≡ placed_on shape.now graph.now }
+    ensures { Routes result (routed_on shape.now graph.now placement.now) }
+{
+    routes(alloc, graph, shape, placement)
+}
+
+/// The routes of a graph whose vertices are placed, or what is full, at the graph's line.
+fn route_graph(
+    alloc: Global,
+    shape: &Shape,
+    line: u32,
+    graph: &Graph,
+    placement: &Placement,
+) -> Result<RouteSet, LoadStop>
+    requires graph { IsGraph graph.now }
+    requires placement { Ok placement.now ≡ placed_on shape.now graph.now }
+    ensures { Gives result (routed_as line (routed_on shape.now graph.now placement.now)) }
+{
+    match routed_on(alloc, shape, graph, placement) {
+        Ok(set) => Ok(set),
+        Err(RouteStop::Memory) => Err(LoadStop::Memory),
+        Err(RouteStop::KeysFull) => Err(LoadStop::Fault(fault_at(line, FaultName::KeysFull))),
+        Err(RouteStop::TableFull) => Err(LoadStop::Fault(fault_at(line, FaultName::TableFull))),
+    }
+}
+
+/// The graph of a section with its places and routes.
+fn map_section(alloc: Global, shape: &Shape, section: &TextSection) -> Result<Mapped, LoadStop>
+    ensures { Gives result (section_mapped shape.now section.now) }
+{
+    let graph = graph_said(alloc, section)?;
+    let placement = place_graph(alloc, shape, section.line, &graph)?;
+    let routes = route_graph(alloc, shape, section.line, &graph, &placement)?;
+    Ok(Mapped {
+        graph,
+        placement,
+        routes,
+    })
+}
+
+/// The graph of a job with its places and routes, if the job has a graph.
+pub(crate) fn map_job(
+    alloc: Global,
+    shape: &Shape,
+    graph: &Option<TextSection>,
+) -> Result<Option<Mapped>, LoadStop>
+    ensures { Maps result (mapped_by shape.now graph.now) }
+{
+    match graph {
+        Some(section) => {
+            let mapped = map_section(alloc, shape, section)?;
+            Ok(Some(mapped))
+        }
+        None => Ok(None),
+    }
+}
