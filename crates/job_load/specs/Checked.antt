@@ -8,7 +8,7 @@ use Rattle.job_load.specs.declared.fault.LoadStop.{LoadStop}
 use Rattle.job_load.specs.Assembly.{IsStop, as_code}
 use Rattle.job_load.specs.Faults.{section_fault}
 use Rattle.job_load.specs.Loaded.{load_fault}
-use Rattle.job_load.specs.Mapping.{graph_mapped}
+use Rattle.job_load.specs.Mapping.{AreMapped, graph_mapped}
 
 -- the job has no fault, and this is known of it
 pub record IsChecked (job : Job) (checked : Checked) : Type 0 where
@@ -17,6 +17,7 @@ pub record IsChecked (job : Job) (checked : Checked) : Type 0 where
   pub shape : checked.shape ≡ job.numbers
   pub asms : checked.asms ≡ map as_code job.asms
   pub graph : checked.mapped ≡ graph_mapped job
+  pub fits : AreMapped checked.mapped
 
 -- what is known of a job without a fault, or the first fault, unless memory ran out
 abbrev pub Checks : Result Checked LoadStop → Job → Type 0

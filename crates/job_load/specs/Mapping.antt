@@ -1,5 +1,5 @@
 -- A job's graph, the places of its vertices, and its routes.
-use Rattle.std.specs.Prelude.{ℕ, ◌≡◌, ◌+◌, ◌^◌, Bool, List, length, nat_lt, Option, Some, None, if◌then◌else◌}
+use Rattle.std.specs.Prelude.{ℕ, ◌≡◌, ◌+◌, ◌^◌, Bool, List, length, nat_lt, MatchOption, Option, Some, None, if◌then◌else◌}
 use Rattle.std.specs.declared.result.Result.{Result}
 use Rattle.std.specs.declared.result.Result.TheVariants.{Ok, Err}
 use Rattle.tn_base.specs.declared.shape.ShapeNumbers.{ShapeNumbers}
@@ -7,6 +7,7 @@ use Rattle.tn_text.specs.declared.stop.Fault.{Fault as At}
 use Rattle.tn_text.specs.Lines.{lines_of}
 use Rattle.graph_text.specs.declared.graph.Graph.{Graph}
 use Rattle.graph_text.specs.declared.graph.GraphKind.{GraphKind}
+use Rattle.graph_text.specs.Graph.{IsGraph}
 use Rattle.graph_text.specs.Text.{graph_of}
 use Rattle.polite_place.specs.declared.placement.PlaceStop.{PlaceStop}
 use Rattle.polite_place.specs.declared.placement.Seat.{Seat}
@@ -110,6 +111,14 @@ graph_fault job = fault_of_map (mapped_by job.numbers job.graph)
 -- a job's graph with its places and routes, if it has one, and if that is not at fault
 abbrev pub graph_mapped : Job → Option Mapped
 graph_mapped job = value_of_map (mapped_by job.numbers job.graph)
+
+-- the graph is one that a text says, and each of its vertices has a place
+pub record IsMapped (m : Mapped) : Type 0 where
+  pub graph : IsGraph m.graph
+  pub seats : length m.placement ≡ length m.graph.vertices
+
+abbrev pub AreMapped : Option Mapped → Type 0
+AreMapped o = MatchOption o (Unit {0}) IsMapped
 
 -- what a call answers, unless memory ran out: no fault, and the graph with its places and routes, or the fault
 abbrev pub Maps : Result (Option Mapped) LoadStop → Option (Result Mapped LoadFault) → Type 0

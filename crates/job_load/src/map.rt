@@ -4,6 +4,8 @@ ghost use Rattle.job_text.specs.Numbered.{AreNumbered};
 ghost use Rattle.job_text.specs.WellFormed.{IsWellFormed};
 ghost use Rattle.job_load.specs.Gives.{Gives};
 ghost use Rattle.job_load.specs.Loaded.{mapped};
+ghost use Rattle.job_load.specs.Mapping.{IsMapped};
+ghost use Rattle.std.specs.Prelude.{IfOk};
 
 use crate::check::{Checked, check};
 use crate::fault::{FaultName, LoadStop};
@@ -27,7 +29,8 @@ pub struct Mapped {
 pub fn map_graph(alloc: Global, job: &Job) -> Result<Mapped, LoadStop>
     requires formed { IsWellFormed job.now }
     requires numbered { AreNumbered job.now }
-    ensures { Gives result (mapped job.now) }
+    ensures gives { Gives result (mapped job.now) }
+    ensures fits { IfOk result IsMapped }
 {
     let Checked { mapped, .. } = check(alloc, job)?;
     match mapped {

@@ -7,7 +7,7 @@ ghost use Rattle.graph_text.specs.Graph.{IsGraph};
 ghost use Rattle.polite_place.specs.Seats.{Places};
 ghost use Rattle.polite_routes.specs.Answer.{Routes};
 ghost use Rattle.job_load.specs.Gives.{Gives};
-ghost use Rattle.job_load.specs.Mapping.{Maps, graph_said, has_numbers, mapped_by, placed_as, placed_on, routed_as, routed_on, section_mapped, text_graph};
+ghost use Rattle.job_load.specs.Mapping.{AreMapped, IsMapped, Maps, graph_said, has_numbers, mapped_by, placed_as, placed_on, routed_as, routed_on, section_mapped, text_graph};
 
 use crate::fault::{FaultName, LoadFault, LoadStop};
 use crate::map::Mapped;
@@ -16,6 +16,7 @@ use graph_text::graph::{Graph, GraphStop};
 use graph_text::read::read_graph;
 use job_text::job::TextSection;
 use polite_place::placement::{PlaceStop, Placement, place};
+use polite_routes::laws::law_served;
 use polite_routes::routes::{RouteSet, routes};
 use polite_routes::target::RouteStop;
 use std::alloc::Global;
@@ -94,6 +95,15 @@ fn place_graph(
     }
 }
 
+/// Each vertex has a place.
+fn seat_all(shape: &Shape, graph: &Graph, placement: &Placement)
+    requires graph { IsGraph graph.now }
+    requires placement { Ok placement.now ≡ placed_on shape.now graph.now }
+    ensures { length placement.now ≡ length graph.now.vertices }
+{
+    law_served(shape, graph, placement);
+}
+
 /// The routes of a graph whose vertices are placed.
 fn routed_on(
     alloc: Global,
@@ -130,10 +140,12 @@ fn route_graph(
 
 /// The graph of a section with its places and routes.
 fn map_section(alloc: Global, shape: &Shape, section: &TextSection) -> Result<Mapped, LoadStop>
-    ensures { Gives result (section_mapped shape.now section.now) }
+    ensures gives { Gives result (section_mapped shape.now section.now) }
+    ensures fits { IfOk result IsMapped }
 {
     let graph = graph_said(alloc, section)?;
     let placement = place_graph(alloc, shape, section.line, &graph)?;
+    seat_all(shape, &graph, &placement);
     let routes = route_graph(alloc, shape, section.line, &graph, &placement)?;
     Ok(Mapped {
         graph,
@@ -148,7 +160,8 @@ pub(crate) fn map_job(
     shape: &Shape,
     graph: &Option<TextSection>,
 ) -> Result<Option<Mapped>, LoadStop>
-    ensures { Maps result (mapped_by shape.now graph.now) }
+    ensures maps { Maps result (mapped_by shape.now graph.now) }
+    ensures fits { IfOk result AreMapped }
 {
     match graph {
         Some(section) => {
