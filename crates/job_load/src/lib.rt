@@ -14,7 +14,7 @@ pub mod load;
 pub mod map;
 mod mapping;
 mod mixed;
-mod numbers;
+pub mod numbers;
 mod sections;
 mod start;
 mod tables;

@@ -35,8 +35,8 @@ fn number_line(fault: ShapeFault, lines: &ShapeNumbers) -> u32
     }
 }
 
-/// The shape of a job's machine.
-pub(crate) fn shape_of(job: &Job) -> Result<Shape, LoadFault>
+/// The shape of a job's machine, or the first number outside its limits, at the line that gives it.
+pub fn shape_of(job: &Job) -> Result<Shape, LoadFault>
     ensures { MatchResult result (λ shape. (shape ≡ job.now.numbers) × (number_fault job.now ≡ None)) (λ fault. number_fault job.now ≡ Some fault) }
 {
     match Shape::of(job.numbers) {

@@ -21,9 +21,16 @@ use Rattle.job_load.specs.declared.fault.LoadFault.{LoadFault}
 use Rattle.job_load.specs.declared.fault.LoadStop.{LoadStop}
 use Rattle.job_load.specs.declared.fault.LoadStop.TheVariants as stop
 use Rattle.asm_build.specs.Text.{assembled}
-use Rattle.job_load.specs.Names.{fault_of_asm}
+use Rattle.tn_base.specs.declared.shape.ShapeNumbers.{ShapeNumbers}
+use Rattle.job_text.specs.declared.job.Job.{Job}
+use Rattle.job_text.specs.declared.job.JobKind.{JobKind}
+use Rattle.job_text.specs.Text.{job_of}
+use Rattle.job_load.specs.declared.map.Mapped.{Mapped}
+use Rattle.job_load.specs.Loaded.{mapped}
+use Rattle.job_load.specs.Names.{fault_of_asm, name_of_text}
+use Rattle.map_text.specs.Text.{map_text}
 use Rattle.tn_run.specs.declared.texts.TextCommand.{TextCommand}
-use Rattle.tn_run.specs.declared.texts.TextCommand.TheVariants.{Asm, Show}
+use Rattle.tn_run.specs.declared.texts.TextCommand.TheVariants.{Asm, Map, Show}
 use Rattle.tn_run.specs.Refusal.{refusal_text}
 
 -- The commands.
@@ -32,6 +39,7 @@ use Rattle.tn_run.specs.Refusal.{refusal_text}
 abbrev pub text_in : Command → Option TextCommand
 text_in command.Asm = Some Asm
 text_in command.Show = Some Show
+text_in command.Map = Some Map
 text_in other = None
 
 -- the command of words that are a form of `plain_top`
@@ -85,12 +93,23 @@ abbrev pub shown_lines : ℕ → List (List ℕ) → Result (List ℕ) LoadFault
 shown_lines number [] = Ok []
 shown_lines number (l ∷ ls) = before (shown_line number l) (shown_lines (number + 1) ls)
 
+-- From a job to the places of its graph's vertices, and the boards' tables.
+
+abbrev pub map_by : ShapeNumbers → Result Mapped LoadFault → Result (List ℕ) LoadFault
+map_by n (Ok m) = Ok (map_text m.graph m.placement n m.routes.tables)
+map_by n (Err found) = Err found
+
+abbrev pub map_of : Result Job (Fault JobKind) → Result (List ℕ) LoadFault
+map_of (Ok job) = map_by job.numbers (mapped job)
+map_of (Err found) = Err (record { line = found.line; kind = name_of_text found.kind })
+
 -- What a command answers.
 
 -- a line for each command: what it makes of an input, or the first line at fault
 abbrev pub made_by : TextCommand → List ℕ → Result (List ℕ) LoadFault
 made_by Asm input = asm_by (assembled 1 input)
 made_by Show input = shown_lines 1 (lines_of input)
+made_by Map input = map_of (job_of (lines_of input))
 
 abbrev pub answer_by : Result (List ℕ) LoadFault → Status × List ℕ
 answer_by (Ok text) = (Done, text)

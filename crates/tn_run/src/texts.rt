@@ -1,7 +1,10 @@
 //! The commands that read a text and write another.
 ghost use Rattle.std.specs.Prelude.{◌≡◌, ◌≤◌, ◌++◌, true, IfOk, OnOk, length};
+ghost use Rattle.job_load.specs.Loaded.{mapped};
+ghost use Rattle.job_text.specs.Numbered.{AreNumbered};
+ghost use Rattle.job_text.specs.WellFormed.{IsWellFormed};
 ghost use Rattle.tn_call.specs.Number.{tells};
-ghost use Rattle.tn_run.specs.Texts.{Anything, Makes, made_by, onto, reads_all, shown_line, shown_text, text_answer, text_in, word_line, words_text};
+ghost use Rattle.tn_run.specs.Texts.{Anything, Makes, made_by, map_by, onto, reads_all, shown_line, shown_text, text_answer, text_in, word_line, words_text};
 ghost use Rattle.tn_run.specs.declared.texts.TextCommand.{TextCommand};
 
 use crate::refusal::refused;
@@ -9,6 +12,11 @@ use asm_build::assemble::assemble_text;
 use asm_build::show::show;
 use asm_text::fault::AsmStop;
 use job_load::fault::{FaultName, LoadFault, LoadStop};
+use job_load::map::map_graph;
+use job_load::numbers::shape_of;
+use job_text::job::{Job, JobStop};
+use job_text::read::read_job;
+use map_text::print::print_map;
 use std::alloc::{AllocError, Global};
 use tn_call::service::{Answer, Service};
 use tn_call::status::Status;
@@ -25,6 +33,8 @@ pub enum TextCommand {
     Asm,
     /// From words to assembly.
     Show,
+    /// From a job with a graph to the places of its vertices and the boards' tables.
+    Map,
 }
 
 /// What serves the commands on texts.
@@ -104,6 +114,38 @@ fn push_lines(alloc: Global, text: &mut Vec<u8>, input: &[u8]) -> Result<(), Loa
     Ok(())
 }
 
+/// Appends the places and tables of a job's graph.
+fn push_mapped(alloc: Global, text: &mut Vec<u8>, job: &Job) -> Result<(), LoadStop>
+    requires formed { IsWellFormed job.now }
+    requires numbered { AreNumbered job.now }
+    ensures { Makes result text.new.items (onto text.old.items (map_by job.now.numbers (mapped job.now))) }
+{
+    let shape = match shape_of(job) {
+        Ok(shape) => shape,
+        Err(fault) => return Err(LoadStop::Fault(fault)),
+    };
+    let mapped = map_graph(alloc, job)?;
+    let tables = &mapped.routes.tables;
+    let printed = print_map(alloc, &shape, &mapped.graph, &mapped.placement, tables)?;
+    Ok(text.extend_from_slice(printed.as_slice())?)
+}
+
+/// Appends the places and tables of the graph of the job that a text says.
+fn push_map(alloc: Global, text: &mut Vec<u8>, input: &[u8]) -> Result<(), LoadStop>
+    requires { length input.now ≤ 16777216 }
+    ensures { Makes result text.new.items (onto text.old.items (made_by TextCommand.Map input.now)) }
+{
+    law_line_count(input);
+    match read_job(alloc, input) {
+        Ok(job) => push_mapped(alloc, text, &job),
+        Err(JobStop::Memory) => Err(LoadStop::Memory),
+        Err(JobStop::Fault(fault)) => Err(LoadStop::Fault(LoadFault {
+            line: fault.line,
+            kind: FaultName::of_text(fault.kind),
+        })),
+    }
+}
+
 fn push_made(
     alloc: Global,
     text: &mut Vec<u8>,
@@ -116,6 +158,7 @@ fn push_made(
     match command {
         TextCommand::Asm => push_assembled(alloc, text, input),
         TextCommand::Show => push_lines(alloc, text, input),
+        TextCommand::Map => push_map(alloc, text, input),
     }
 }
 
@@ -154,9 +197,9 @@ impl Service for TextService {
         match command {
             Command::Asm => Some(TextCommand::Asm),
             Command::Show => Some(TextCommand::Show),
+            Command::Map => Some(TextCommand::Map),
             Command::Run { .. }
             | Command::Gen { .. }
-            | Command::Map
             | Command::Check
             | Command::Follow { .. }
             | Command::Bsp
