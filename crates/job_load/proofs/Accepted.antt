@@ -25,6 +25,7 @@ use Rattle.job_load.specs.Laws.{IsFreshPart, IsStart}
 use Rattle.job_load.specs.Loaded.{load_fault, loaded, unless}
 use Rattle.job_load.specs.Mapping.{graph_fault}
 use Rattle.job_load.specs.Mixed.{mixed_fault}
+use Rattle.job_load.specs.Routed.{routes_fault}
 use Rattle.job_load.specs.Start.{part_start, start_of}
 use Rattle.job_load.specs.Tables.{table_fault}
 use Rattle.job_load.proofs.Boards.{faultless}
@@ -120,6 +121,7 @@ pub record Faultless (job : Job) : Type 0 where
   pub sections : section_fault job ≡ None
   pub missing : missing_fault job ≡ None
   pub tables : table_fault job ≡ None
+  pub routes : routes_fault job ≡ None
 
 pub each_none : (job : Job) → load_fault job ≡ None → Faultless job
 each_none job e =
@@ -128,8 +130,9 @@ each_none job e =
     let three = or_neither (asm_fault job) _ two.1 in
     let four = or_neither (graph_fault job) _ three.1 in
     let five = or_neither (section_fault job) _ four.1 in
-    let six = or_neither (missing_fault job) (table_fault job) five.1 in
-    record { numbers = one.0; mixed = two.0; assembly = three.0; graph = four.0; sections = five.0; missing = six.0; tables = six.1 }
+    let six = or_neither (missing_fault job) _ five.1 in
+    let seven = or_neither (table_fault job) (routes_fault job) six.1 in
+    record { numbers = one.0; mixed = two.0; assembly = three.0; graph = four.0; sections = five.0; missing = six.0; tables = seven.0; routes = seven.1 }
 
 pub accepted : (job : Job) (w : WorldView) → loaded job ≡ Ok w → IsStart job w
 accepted job w e =

@@ -79,19 +79,21 @@ pub or_neither : (a b : Option LoadFault) → option_or a b ≡ None → (a ≡ 
 or_neither None b e = (refl, e)
 or_neither (Some x) b e = absurd cc
 
--- four tests find nothing
-pub record NoneFound (a b c d : Option LoadFault) : Type 0 where
+-- five tests find nothing
+pub record NoneFound (a b c d e : Option LoadFault) : Type 0 where
   pub first : a ≡ None
   pub second : b ≡ None
   pub third : c ≡ None
   pub fourth : d ≡ None
+  pub fifth : e ≡ None
 
-pub none_of_four : (a b c d : Option LoadFault) → sooner a (sooner b (sooner c d)) ≡ None → NoneFound a b c d
-none_of_four a b c d e =
-    let one = sooner_neither a (sooner b (sooner c d)) e in
-    let two = sooner_neither b (sooner c d) one.1 in
-    let three = sooner_neither c d two.1 in
-    record { first = one.0; second = two.0; third = three.0; fourth = three.1 }
+pub none_of_five : (a b c d e : Option LoadFault) → sooner a (sooner b (sooner c (sooner d e))) ≡ None → NoneFound a b c d e
+none_of_five a b c d e h =
+    let one = sooner_neither a (sooner b (sooner c (sooner d e))) h in
+    let two = sooner_neither b (sooner c (sooner d e)) one.1 in
+    let three = sooner_neither c (sooner d e) two.1 in
+    let four = sooner_neither d e three.1 in
+    record { first = one.0; second = two.0; third = three.0; fourth = four.0; fifth = four.1 }
 
 pub none_soonest : {X : Type 0} (test : X → Option LoadFault) (xs : List X) → soonest test xs ≡ None → AllByRecursion (λ x. test x ≡ None) xs
 none_soonest test [] e = tt

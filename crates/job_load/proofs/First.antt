@@ -7,7 +7,7 @@ use Rattle.std.proofs.lemmas.List.{append-nil}
 use Rattle.job_text.specs.declared.job.Job.{Job}
 use Rattle.job_load.specs.declared.fault.LoadFault.{LoadFault}
 use Rattle.job_load.specs.Assembly.{sections_of}
-use Rattle.job_load.specs.Faults.{beat_fault, beat_lines, code_fault, fill_fault, place_fault, section_fault, sooner, soonest}
+use Rattle.job_load.specs.Faults.{beat_fault, beat_lines, code_fault, fill_fault, place_fault, section_fault, send_fault, sooner, soonest}
 use Rattle.job_load.specs.Laws.{IsAmong, IsFirst, section_faults}
 
 abbrev Behind : LoadFault → LoadFault → Type 0
@@ -57,6 +57,8 @@ first_section job =
     let fills = first_of (fill_fault job.numbers) job.fills in
     let places = first_of (place_fault job.numbers) job.tables in
     let beats = first_of (beat_fault job.version) (beat_lines job.tables) in
+    let sends = first_of (send_fault job.numbers) job.script in
     first_join _ _ (filter_map (code_fault job.numbers) (sections_of job)) _ codes
     (first_join _ _ (filter_map (fill_fault job.numbers) job.fills) _ fills
-    (first_join _ _ (filter_map (place_fault job.numbers) job.tables) (filter_map (beat_fault job.version) (beat_lines job.tables)) places beats))
+    (first_join _ _ (filter_map (place_fault job.numbers) job.tables) _ places
+    (first_join _ _ (filter_map (beat_fault job.version) (beat_lines job.tables)) (filter_map (send_fault job.numbers) job.script) beats sends)))

@@ -24,10 +24,10 @@ use Rattle.job_text.specs.declared.job.Job.{Job}
 use Rattle.job_load.specs.declared.fault.FaultName.TheVariants as fault
 use Rattle.job_load.specs.Assembly.{sections_of}
 use Rattle.job_load.specs.Code.{code_of}
-use Rattle.job_load.specs.Faults.{beat_fault, beat_lines, code_fault, fault_at, fill_fault, place_fault, section_fault, soonest}
+use Rattle.job_load.specs.Faults.{beat_fault, beat_lines, code_fault, fault_at, fill_fault, place_fault, section_fault, send_fault, soonest}
 use Rattle.job_load.specs.Images.{AreImages, IsWithin, filled, image_at, memory_of}
 use Rattle.job_load.specs.Start.{by_address, part_start, start_of, thread_over, thread_start, tile_start}
-use Rattle.job_load.proofs.Faults.{NoneFound, none_of_four, none_soonest}
+use Rattle.job_load.proofs.Faults.{NoneFound, none_of_five, none_soonest}
 use Rattle.job_load.proofs.Images.{filled_long, filled_none}
 use Rattle.job_load.proofs.Ranges.{map_same}
 
@@ -119,9 +119,9 @@ fills_by n [] all = tt
 fills_by n (f ∷ fs) all = (fill_within n f all.0, fills_by n fs all.1)
 
 pub nothing_found : (job : Job) → section_fault job ≡ None →
-    NoneFound (soonest (code_fault job.numbers) (sections_of job)) (soonest (fill_fault job.numbers) job.fills) (soonest (place_fault job.numbers) job.tables) (soonest (beat_fault job.version) (beat_lines job.tables))
+    NoneFound (soonest (code_fault job.numbers) (sections_of job)) (soonest (fill_fault job.numbers) job.fills) (soonest (place_fault job.numbers) job.tables) (soonest (beat_fault job.version) (beat_lines job.tables)) (soonest (send_fault job.numbers) job.script)
 nothing_found job e =
-    none_of_four (soonest (code_fault job.numbers) (sections_of job)) (soonest (fill_fault job.numbers) job.fills) (soonest (place_fault job.numbers) job.tables) (soonest (beat_fault job.version) (beat_lines job.tables)) e
+    none_of_five (soonest (code_fault job.numbers) (sections_of job)) (soonest (fill_fault job.numbers) job.fills) (soonest (place_fault job.numbers) job.tables) (soonest (beat_fault job.version) (beat_lines job.tables)) (soonest (send_fault job.numbers) job.script) e
 
 pub fills_within : (job : Job) → section_fault job ≡ None → AllByRecursion (IsWithin job.numbers.mem) job.fills
 fills_within job e = fills_by job.numbers job.fills (none_soonest (fill_fault job.numbers) job.fills (nothing_found job e).second)

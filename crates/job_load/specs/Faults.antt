@@ -1,5 +1,5 @@
--- The faults of a job that makes no machine, in the order in which they refuse it.
-use Rattle.std.specs.Prelude.{ℕ, ◌+◌, ◌&&◌, Bool, min, not, List, [], ◌∷◌, length, map, nat_lt, Option, Some, None, option_map, if◌then◌else◌}
+-- The faults of a job that makes no machine. `Loaded` has the order in which they refuse it.
+use Rattle.std.specs.Prelude.{ℕ, ◌+◌, ◌&&◌, Bool, min, not, List, [], ◌∷◌, length, map, nat_le, nat_lt, Option, Some, None, option_map, if◌then◌else◌}
 use Rattle.std.specs.List.{flat_map, reduce}
 use Rattle.std.specs.declared.result.Result.{Result}
 use Rattle.std.specs.declared.result.Result.TheVariants.{Ok, Err}
@@ -7,6 +7,8 @@ use Rattle.tn_base.specs.declared.shape.ShapeFault.{ShapeFault}
 use Rattle.tn_base.specs.declared.shape.ShapeFault.TheVariants as number
 use Rattle.tn_base.specs.declared.shape.ShapeNumbers.{ShapeNumbers}
 use Rattle.tn_base.specs.Address.{has_thread, has_tile}
+use Rattle.tn_base.specs.Bytes.{is_length}
+use Rattle.tn_base.specs.Message.{slot_bytes}
 use Rattle.tn_base.specs.Shape.{first_fault}
 use Rattle.tn_keys.specs.declared.beat.BeatFault.{BeatFault}
 use Rattle.tn_keys.specs.declared.record.RouteRec.{RouteRec}
@@ -17,6 +19,9 @@ use Rattle.job_text.specs.declared.job.FillLine.{FillLine}
 use Rattle.job_text.specs.declared.job.Job.{Job}
 use Rattle.job_text.specs.declared.job.Owner.{Owner}
 use Rattle.job_text.specs.declared.job.Owner.TheVariants as owner
+use Rattle.job_text.specs.declared.job.ScriptLine.{ScriptLine}
+use Rattle.job_text.specs.declared.job.ScriptText.{ScriptText}
+use Rattle.job_text.specs.declared.job.ScriptText.TheVariants.{Send, Idle}
 use Rattle.job_text.specs.declared.job.TableSection.{TableSection}
 use Rattle.job_load.specs.declared.fault.FaultName.{FaultName}
 use Rattle.job_load.specs.declared.fault.FaultName.TheVariants as fault
@@ -32,7 +37,7 @@ fault_at line kind = record { line = line; kind = kind }
 abbrev pub shape_line : ShapeNumbers → ℕ
 shape_line lines = lines.boards_x
 
--- 1. A number of the machine.
+-- A number of the machine, which refuses a job first.
 
 -- the line that gives a number: that of its setting, or of the shape. Of the memory of all threads together it is the shape's
 abbrev pub number_line : ShapeFault → ShapeNumbers → ℕ
@@ -52,32 +57,13 @@ number_line number.Turn lines = lines.turn
 abbrev pub number_fault : Job → Option LoadFault
 number_fault job = option_map (λ f. fault_at (number_line f job.number_lines) (name_of_number f)) (first_fault job.numbers)
 
--- 2. What the machine does not have yet.
-
--- the earlier one of two lines
-abbrev pub earlier : Option ℕ → Option ℕ → Option ℕ
-earlier None line = line
-earlier (Some a) None = Some a
-earlier (Some a) (Some b) = Some (min a b)
-
--- the first of the lines on which these stand
-abbrev pub first_line : {X : Type 0} → (X → ℕ) → List X → Option ℕ
-first_line line items = reduce min (map line items)
-
--- the first line that gives what is not there yet: a script, or a graph
-abbrev pub unbuilt_line : Job → Option ℕ
-unbuilt_line job = earlier (first_line (λ item. item.line) job.script) (option_map (λ graph. graph.line) job.graph)
-
-abbrev pub unbuilt_fault : Job → Option LoadFault
-unbuilt_fault job = option_map (λ line. fault_at line fault.UnsupportedYet) (unbuilt_line job)
-
--- 3. A section that is no assembly.
+-- A section that is no assembly.
 
 -- the first one in order of the sections, at its first line at fault
 abbrev pub asm_fault : Job → Option LoadFault
 asm_fault job = asms_fault job.asms
 
--- 4. Sections that name what the machine does not have.
+-- Sections that name what the machine does not have, and messages that are none.
 
 -- the one of two faults that stands on the earlier line
 abbrev pub sooner : Option LoadFault → Option LoadFault → Option LoadFault
@@ -129,14 +115,49 @@ beat_fault version beat = fault_of_beat beat.line (beat_from version beat.bytes)
 abbrev pub beat_lines : List TableSection → List BeatLine
 beat_lines tables = flat_map (λ table. table.beats) tables
 
+-- a message of the version: one to four flits of 16 bytes, in version 2 one to eight
+abbrev pub is_message : ShapeNumbers → ℕ → Bool
+is_message n count = is_length count && nat_le count (slot_bytes n)
+
+abbrev pub item_fault : ShapeNumbers → ℕ → ScriptText → Option LoadFault
+item_fault n line Idle = None
+item_fault n line (Send thread bytes) =
+    if not (has_thread n thread) then Some (fault_at line fault.BadThread)
+    else if is_message n (length bytes) then None
+    else Some (fault_at line fault.BadMessage)
+
+-- what the host sends to a thread that is not there, or no message
+abbrev pub send_fault : ShapeNumbers → ScriptLine → Option LoadFault
+send_fault n l = item_fault n l.line l.item
+
 abbrev pub section_fault : Job → Option LoadFault
 section_fault job =
     sooner (soonest (code_fault job.numbers) (sections_of job))
     (sooner (soonest (fill_fault job.numbers) job.fills)
     (sooner (soonest (place_fault job.numbers) job.tables)
-    (soonest (beat_fault job.version) (beat_lines job.tables))))
+    (sooner (soonest (beat_fault job.version) (beat_lines job.tables))
+    (soonest (send_fault job.numbers) job.script))))
 
--- 5. A tile without code.
+-- A tile without code.
 
 abbrev pub missing_fault : Job → Option LoadFault
 missing_fault job = if lacks_code job.numbers (sections_of job) then Some (fault_at (shape_line job.number_lines) fault.NoCode) else None
+
+-- What the machine does not have yet, which refuses a job last.
+
+-- the earlier one of two lines
+abbrev pub earlier : Option ℕ → Option ℕ → Option ℕ
+earlier None line = line
+earlier (Some a) None = Some a
+earlier (Some a) (Some b) = Some (min a b)
+
+-- the first of the lines on which these stand
+abbrev pub first_line : {X : Type 0} → (X → ℕ) → List X → Option ℕ
+first_line line items = reduce min (map line items)
+
+-- the first line that gives what is not there yet: a script, or a graph
+abbrev pub unbuilt_line : Job → Option ℕ
+unbuilt_line job = earlier (first_line (λ item. item.line) job.script) (option_map (λ graph. graph.line) job.graph)
+
+abbrev pub unbuilt_fault : Job → Option LoadFault
+unbuilt_fault job = option_map (λ line. fault_at line fault.UnsupportedYet) (unbuilt_line job)

@@ -20,7 +20,7 @@ use Rattle.job_text.specs.declared.job.Job.{Job}
 use Rattle.job_load.specs.declared.fault.LoadFault.{LoadFault}
 use Rattle.job_load.specs.Assembly.{sections_of}
 use Rattle.job_load.specs.Code.{code_of}
-use Rattle.job_load.specs.Faults.{beat_fault, beat_lines, code_fault, fill_fault, has_board, place_fault}
+use Rattle.job_load.specs.Faults.{beat_fault, beat_lines, code_fault, fill_fault, has_board, place_fault, send_fault}
 use Rattle.job_load.specs.Images.{IsWithin, fills_of, memory_of}
 use Rattle.job_load.specs.Start.{start_of}
 use Rattle.job_load.specs.Tables.{tables_of}
@@ -33,7 +33,8 @@ section_faults job =
     filter_map (code_fault job.numbers) (sections_of job)
     ++ (filter_map (fill_fault job.numbers) job.fills
     ++ (filter_map (place_fault job.numbers) job.tables
-    ++ filter_map (beat_fault job.version) (beat_lines job.tables)))
+    ++ (filter_map (beat_fault job.version) (beat_lines job.tables)
+    ++ filter_map (send_fault job.numbers) job.script)))
 
 abbrev pub IsAmong : LoadFault → List LoadFault → Type 0
 IsAmong f [] = ⊥

@@ -9,5 +9,6 @@ pub mod Loaded
 pub mod Mapping
 pub mod Mixed
 pub mod Names
+pub mod Routed
 pub mod Start
 pub mod Tables

@@ -1,8 +1,7 @@
 -- What a job makes: its machine at the start, or its graph with places and routes, or the first fault.
 --
--- Tests of jobs with a graph that are still missing: that the assembly has the five labels of each kind, that the states of a thread's
--- devices leave room in its memory, and that the tables of the routes are none that lead too far. A message of the host to a thread that
--- is not there, or of a length that no message has, is not looked at yet either. A job with a graph or a host's line makes no machine yet.
+-- Two tests of jobs with a graph are still missing: that the assembly has the five labels of each kind, and that the states of a thread's
+-- devices leave room in its memory. A job with a graph or a host's line makes no machine yet.
 use Rattle.std.specs.Prelude.{ℕ, Option, Some, None}
 use Rattle.std.specs.Option.{option_or}
 use Rattle.std.specs.declared.result.Result.{Result}
@@ -15,6 +14,7 @@ use Rattle.job_load.specs.declared.map.Mapped.{Mapped}
 use Rattle.job_load.specs.Faults.{asm_fault, fault_at, missing_fault, number_fault, section_fault, shape_line, unbuilt_fault}
 use Rattle.job_load.specs.Mapping.{graph_fault, graph_mapped}
 use Rattle.job_load.specs.Mixed.{mixed_fault}
+use Rattle.job_load.specs.Routed.{routes_fault}
 use Rattle.job_load.specs.Start.{start_of}
 use Rattle.job_load.specs.Tables.{table_fault}
 
@@ -27,7 +27,8 @@ load_fault job =
     (option_or (graph_fault job)
     (option_or (section_fault job)
     (option_or (missing_fault job)
-    (table_fault job))))))
+    (option_or (table_fault job)
+    (routes_fault job)))))))
 
 -- a fault refuses the job before what comes behind it
 abbrev pub unless : {V : Type 0} → Option LoadFault → Result V LoadFault → Result V LoadFault

@@ -1,10 +1,16 @@
 -- A job's graph, the places of its vertices, and its routes.
-use Rattle.std.specs.Prelude.{ℕ, ◌≡◌, ◌+◌, ◌^◌, Bool, List, length, nat_lt, MatchOption, Option, Some, None, if◌then◌else◌}
+use Rattle.std.specs.Prelude.{ℕ, ◌≡◌, ◌+◌, ◌^◌, Bool, List, [], ◌∷◌, length, nat_lt, slice_index, MatchOption, Option, Some, None, if◌then◌else◌}
 use Rattle.std.specs.declared.result.Result.{Result}
 use Rattle.std.specs.declared.result.Result.TheVariants.{Ok, Err}
 use Rattle.tn_base.specs.declared.shape.ShapeNumbers.{ShapeNumbers}
+use Rattle.tn_base.specs.Message.{flits}
+use Rattle.tn_text.specs.declared.numbers.Numeral.{Numeral}
+use Rattle.tn_text.specs.declared.numbers.Numeral.TheVariants.{Value, TooLarge, NoNumber}
 use Rattle.tn_text.specs.declared.stop.Fault.{Fault as At}
+use Rattle.tn_text.specs.Content.{content_of}
 use Rattle.tn_text.specs.Lines.{lines_of}
+use Rattle.tn_text.specs.NumberLists.{numbers_in}
+use Rattle.tn_text.specs.Words.{words_of}
 use Rattle.graph_text.specs.declared.graph.Graph.{Graph}
 use Rattle.graph_text.specs.declared.graph.GraphKind.{GraphKind}
 use Rattle.graph_text.specs.Graph.{IsGraph}
@@ -34,6 +40,25 @@ use Rattle.job_load.specs.Names.{fault_of_graph}
 abbrev pub has_numbers : TextSection → Bool
 has_numbers s = nat_lt (s.line + length (lines_of s.text)) (2 ^ 32)
 
+-- the first of two numbers
+abbrev pub first_number : Numeral (List ℕ) → ℕ
+first_number (Value ns) = slice_index ns 0
+first_number TooLarge = 0
+first_number NoNumber = 0
+
+abbrev pub words_flits : List (List ℕ) → ℕ
+words_flits [] = 0
+words_flits (w ∷ ws) = first_number (numbers_in 2 ws)
+
+-- the flits that the first of these lines gives, that of the graph
+abbrev pub lines_flits : List (List ℕ) → ℕ
+lines_flits [] = 0
+lines_flits (l ∷ ls) = words_flits (words_of (content_of l))
+
+-- a message of version 1 has at most 4 flits
+unfoldable pub is_long : ShapeNumbers → TextSection → Bool
+is_long n s = nat_lt (flits n) (lines_flits (lines_of s.text))
+
 -- the text begins with the graph's line
 unfoldable pub text_graph : TextSection → Result Graph (At GraphKind)
 text_graph s = graph_of s.line (lines_of s.text)
@@ -42,9 +67,13 @@ abbrev pub read_as : Result Graph (At GraphKind) → Result Graph LoadFault
 read_as (Ok graph) = Ok graph
 read_as (Err found) = Err (fault_of_graph found)
 
--- the graph that a section says, or the first line at fault. Lines without numbers are too many
-abbrev pub graph_said : TextSection → Result Graph LoadFault
-graph_said s = if has_numbers s then read_as (text_graph s) else Err (fault_at s.line fault.TooMany)
+-- the graph that a section says, or the first line at fault; before all that, messages that are too long for the version, at the
+-- graph's line. Lines without numbers are too many
+abbrev pub graph_said : ShapeNumbers → TextSection → Result Graph LoadFault
+graph_said n s =
+    if is_long n s then Err (fault_at s.line fault.BadNumber)
+    else if has_numbers s then read_as (text_graph s)
+    else Err (fault_at s.line fault.TooMany)
 
 -- The places of its vertices.
 
@@ -87,7 +116,7 @@ with_graph n line (Err found) = Err found
 -- the graph of a section, its vertices placed and its pins routed on a machine of these numbers. The faults: of the graph, at its line at
 -- fault; more vertices than the threads take, at the graph's line; then keys, then tables that are too many, at the graph's line
 abbrev pub section_mapped : ShapeNumbers → TextSection → Result Mapped LoadFault
-section_mapped n s = with_graph n s.line (graph_said s)
+section_mapped n s = with_graph n s.line (graph_said n s)
 
 -- the same of a job that has a graph
 abbrev pub mapped_by : ShapeNumbers → Option TextSection → Option (Result Mapped LoadFault)

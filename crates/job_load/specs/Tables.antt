@@ -40,7 +40,7 @@ table_for job b = table_by job.version (section_for job b)
 unfoldable pub tables_of : Job → List Table
 tables_of job = map (λ i. table_for job (board_at job.numbers i)) (range_with_len 0 (board_count job.numbers))
 
--- 6. A table that leads nowhere, or too far.
+-- A table that leads nowhere, or too far.
 
 abbrev pub told_at : Option TableSection → Option TableFault → Option LoadFault
 told_at None found = None

@@ -11,6 +11,7 @@ use crate::map::Mapped;
 use crate::mapping::map_job;
 use crate::mixed::mixed_fault;
 use crate::numbers::shape_of;
+use crate::routed::routed_fault;
 use crate::sections::section_fault;
 use crate::tables::table_fault;
 use job_text::job::{CodeSection, Job};
@@ -49,6 +50,9 @@ pub(crate) fn check(alloc: Global, job: &Job) -> Result<Checked, LoadStop>
         return Err(LoadStop::Fault(fault));
     }
     if let Some(fault) = table_fault(alloc, &shape, job)? {
+        return Err(LoadStop::Fault(fault));
+    }
+    if let Some(fault) = routed_fault(alloc, &shape, &job.graph, &mapped)? {
         return Err(LoadStop::Fault(fault));
     }
     Ok(Checked {

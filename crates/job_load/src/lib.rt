@@ -15,6 +15,7 @@ pub mod map;
 mod mapping;
 mod mixed;
 pub mod numbers;
+mod routed;
 mod sections;
 mod start;
 mod tables;

@@ -1,13 +1,16 @@
 //! A job's graph, the places of its vertices, and its routes.
 
-ghost use Rattle.std.specs.Prelude.{◌≡◌, ◌+◌, ◌<◌, ◌^◌, IfOk, Ok, length};
+ghost use Rattle.std.specs.Prelude.{◌≡◌, ◌+◌, ◌<◌, ◌^◌, IfOk, IfSome, Ok, length, slice_index};
+ghost use Rattle.tn_base.specs.Parts.{board_count};
 ghost use Rattle.tn_text.specs.Gives.{Gives as Reads};
+ghost use Rattle.tn_text.specs.Content.{content_of};
 ghost use Rattle.tn_text.specs.Lines.{lines_of};
+ghost use Rattle.tn_text.specs.Words.{words_of};
 ghost use Rattle.graph_text.specs.Graph.{IsGraph};
 ghost use Rattle.polite_place.specs.Seats.{Places};
 ghost use Rattle.polite_routes.specs.Answer.{Routes};
 ghost use Rattle.job_load.specs.Gives.{Gives};
-ghost use Rattle.job_load.specs.Mapping.{AreMapped, IsMapped, Maps, graph_said, has_numbers, mapped_by, placed_as, placed_on, routed_as, routed_on, section_mapped, text_graph};
+ghost use Rattle.job_load.specs.Mapping.{AreMapped, IsMapped, Maps, graph_said, has_numbers, is_long, lines_flits, mapped_by, placed_as, placed_on, routed_as, routed_on, section_mapped, text_graph, words_flits};
 
 use crate::fault::{FaultName, LoadFault, LoadStop};
 use crate::map::Mapped;
@@ -21,7 +24,11 @@ use polite_routes::routes::{RouteSet, routes};
 use polite_routes::target::RouteStop;
 use std::alloc::Global;
 use tn_base::shape::Shape;
+use tn_text::content::content;
 use tn_text::lines::{first_line, law_line_count};
+use tn_text::number_lists::numbers;
+use tn_text::numbers::Numeral;
+use tn_text::words::first_word;
 
 /// How many lines a text has.
 fn count_lines(text: &[u8]) -> usize
@@ -35,6 +42,42 @@ fn count_lines(text: &[u8]) -> usize
         rest = after;
     }
     count
+}
+
+fn first_of(values: [u32; 2]) -> u32
+    ensures { result ≡ slice_index values 0 }
+{
+    values[0]
+}
+
+/// The flits that the graph's line gives.
+fn line_flits(line: &[u8]) -> u32
+    ensures { result ≡ words_flits (words_of (content_of line.now)) }
+{
+    let Some((_word, rest)) = first_word(content(line)) else {
+        return 0;
+    };
+    match numbers::<2>(rest) {
+        Numeral::Value(values) => first_of(values),
+        Numeral::TooLarge | Numeral::NoNumber => 0,
+    }
+}
+
+/// The flits that the first line of a text gives.
+fn lines_flits(text: &[u8]) -> u32
+    ensures { result ≡ lines_flits (lines_of text.now) }
+{
+    match first_line(text) {
+        Some((line, _rest)) => line_flits(line),
+        None => 0,
+    }
+}
+
+/// Whether a graph's messages are too long for the version.
+fn is_long(shape: &Shape, section: &TextSection) -> bool
+    ensures { result ≡ is_long shape.now section.now }
+{
+    lines_flits(section.text.as_slice()) > shape.flits()
 }
 
 /// Whether each line of a graph's text has a number.
@@ -55,10 +98,13 @@ fn text_graph(alloc: Global, section: &TextSection) -> Result<Graph, GraphStop>
 }
 
 /// The graph that a section says.
-fn graph_said(alloc: Global, section: &TextSection) -> Result<Graph, LoadStop>
-    ensures said { Gives result (graph_said section.now) }
+fn graph_said(alloc: Global, shape: &Shape, section: &TextSection) -> Result<Graph, LoadStop>
+    ensures said { Gives result (graph_said shape.now section.now) }
     ensures fits { IfOk result (λ graph. IsGraph graph) }
 {
+    if is_long(shape, section) {
+        return Err(LoadStop::Fault(fault_at(section.line, FaultName::BadNumber)));
+    }
     if !has_numbers(section) {
         return Err(LoadStop::Fault(fault_at(section.line, FaultName::TooMany)));
     }
@@ -113,7 +159,8 @@ fn routed_on(
 ) -> Result<RouteSet, RouteStop>
     requires graph { IsGraph graph.now }
     requires placement { Ok placement.now ≡ placed_on shape.now graph.now }
-    ensures { Routes result (routed_on shape.now graph.now placement.now) }
+    ensures routes { Routes result (routed_on shape.now graph.now placement.now) }
+    ensures boards { IfOk result (λ set. length set.tables ≡ board_count shape.now) }
 {
     routes(alloc, graph, shape, placement)
 }
@@ -128,7 +175,8 @@ fn route_graph(
 ) -> Result<RouteSet, LoadStop>
     requires graph { IsGraph graph.now }
     requires placement { Ok placement.now ≡ placed_on shape.now graph.now }
-    ensures { Gives result (routed_as line (routed_on shape.now graph.now placement.now)) }
+    ensures gives { Gives result (routed_as line (routed_on shape.now graph.now placement.now)) }
+    ensures boards { IfOk result (λ set. length set.tables ≡ board_count shape.now) }
 {
     match routed_on(alloc, shape, graph, placement) {
         Ok(set) => Ok(set),
@@ -142,8 +190,9 @@ fn route_graph(
 fn map_section(alloc: Global, shape: &Shape, section: &TextSection) -> Result<Mapped, LoadStop>
     ensures gives { Gives result (section_mapped shape.now section.now) }
     ensures fits { IfOk result IsMapped }
+    ensures boards { IfOk result (λ m. length m.routes.tables ≡ board_count shape.now) }
 {
-    let graph = graph_said(alloc, section)?;
+    let graph = graph_said(alloc, shape, section)?;
     let placement = place_graph(alloc, shape, section.line, &graph)?;
     seat_all(shape, &graph, &placement);
     let routes = route_graph(alloc, shape, section.line, &graph, &placement)?;
@@ -162,6 +211,7 @@ pub(crate) fn map_job(
 ) -> Result<Option<Mapped>, LoadStop>
     ensures maps { Maps result (mapped_by shape.now graph.now) }
     ensures fits { IfOk result AreMapped }
+    ensures boards { IfOk result (λ m. IfSome m (λ m. length m.routes.tables ≡ board_count shape.now)) }
 {
     match graph {
         Some(section) => {

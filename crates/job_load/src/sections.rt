@@ -1,14 +1,14 @@
-//! Sections that name what the machine does not have, and beats that are none.
+//! Sections that name what the machine does not have, and beats and messages that are none.
 
 ghost use Rattle.std.specs.Prelude.{◌≡◌, ◌⊎◌, map};
 ghost use Rattle.job_load.specs.Assembly.{as_code};
-ghost use Rattle.job_load.specs.Faults.{beat_fault, beat_from, beat_lines, code_fault, fault_of_beat, fill_fault, owner_fault, place_fault, section_fault, sooner, soonest};
+ghost use Rattle.job_load.specs.Faults.{beat_fault, beat_from, beat_lines, code_fault, fault_of_beat, fill_fault, is_message, item_fault, owner_fault, place_fault, section_fault, send_fault, sooner, soonest};
 ghost use Rattle.job_text.specs.WellFormed.{IsWellFormed};
 
 use crate::fault::{FaultName, LoadFault};
 use crate::numbers::fault_at;
 use crate::tables::beat_from;
-use job_text::job::{CodeSection, FillLine, Job, Owner, TableSection};
+use job_text::job::{CodeSection, FillLine, Job, Owner, ScriptLine, ScriptText, TableSection};
 use tn_base::ids::{ThreadId, TileId};
 use tn_base::shape::Shape;
 
@@ -72,6 +72,39 @@ fn beat_fault(version: u32, line: u32, bytes: &[u8; 32]) -> Option<LoadFault>
     }
 }
 
+/// Whether so many bytes are a message of the version.
+fn is_message(shape: &Shape, count: usize) -> bool
+    ensures { result ≡ is_message shape.now count }
+{
+    count >= 16 && count <= 128 && count % 16 == 0 && count <= shape.slot_bytes() as usize
+}
+
+/// A message to a thread that is not there, or bytes that are no message.
+fn item_fault(shape: &Shape, line: u32, item: &ScriptText) -> Option<LoadFault>
+    ensures { result ≡ item_fault shape.now line item.now }
+{
+    let ScriptText::Send(thread, bytes) = item else {
+        return None;
+    };
+    if !shape.has_thread(ThreadId(*thread)) {
+        return Some(fault_at(line, FaultName::BadThread));
+    }
+    if is_message(shape, bytes.len()) {
+        return None;
+    }
+    Some(fault_at(line, FaultName::BadMessage))
+}
+
+fn first_send_fault(shape: &Shape, script: &[ScriptLine]) -> Option<LoadFault>
+    ensures { result ≡ soonest (send_fault shape.now) script.now }
+{
+    let mut first = None;
+    for said in script {
+        first = sooner(first, item_fault(shape, said.line, &said.item));
+    }
+    first
+}
+
 fn first_code_fault(shape: &Shape, sections: &[CodeSection]) -> Option<LoadFault>
     ensures { result ≡ soonest (code_fault shape.now) sections.now }
 {
@@ -124,7 +157,8 @@ fn first_beat_fault(version: u32, tables: &[TableSection]) -> Option<LoadFault>
     first
 }
 
-/// The first section, in order of lines, that names what the machine does not have, or the first beat that is none.
+/// The first section, in order of lines, that names what the machine does not have, or the first beat or message that is
+/// none.
 pub(crate) fn section_fault(shape: &Shape, job: &Job, asms: &[CodeSection]) -> Option<LoadFault>
     requires numbers { shape.now ≡ job.now.numbers }
     requires asms { asms.now ≡ map as_code job.now.asms }
@@ -136,6 +170,7 @@ pub(crate) fn section_fault(shape: &Shape, job: &Job, asms: &[CodeSection]) -> O
     let fills = first_fill_fault(shape, job.fills.as_slice());
     let boards = first_place_fault(shape, job.tables.as_slice());
     let beats = first_beat_fault(job.version, job.tables.as_slice());
-    let named = sooner(fills, sooner(boards, beats));
+    let sends = first_send_fault(shape, job.script.as_slice());
+    let named = sooner(fills, sooner(boards, sooner(beats, sends)));
     sooner(sooner(codes, asms), named)
 }
