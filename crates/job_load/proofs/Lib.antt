@@ -4,6 +4,7 @@ pub mod Boards
 pub mod Faults
 pub mod First
 pub mod Images
+pub mod Labelled
 pub mod Least
 pub mod Maps
 pub mod Memory

@@ -4,6 +4,7 @@ pub mod Code
 pub mod Faults
 pub mod Gives
 pub mod Images
+pub mod Labels
 pub mod Laws
 pub mod Loaded
 pub mod Mapping

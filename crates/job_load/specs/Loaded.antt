@@ -1,7 +1,7 @@
 -- What a job makes: its machine at the start, or its graph with places and routes, or the first fault.
 --
--- Two tests of jobs with a graph are still missing: that the assembly has the five labels of each kind, and that the states of a thread's
--- devices leave room in its memory. A job with a graph or a host's line makes no machine yet.
+-- One test of jobs with a graph is still missing: that the states of a thread's devices leave room in its memory. A job with a graph or a
+-- host's line makes no machine yet.
 use Rattle.std.specs.Prelude.{ℕ, Option, Some, None}
 use Rattle.std.specs.Option.{option_or}
 use Rattle.std.specs.declared.result.Result.{Result}
@@ -12,6 +12,7 @@ use Rattle.job_load.specs.declared.fault.FaultName.TheVariants as fault
 use Rattle.job_load.specs.declared.fault.LoadFault.{LoadFault}
 use Rattle.job_load.specs.declared.map.Mapped.{Mapped}
 use Rattle.job_load.specs.Faults.{asm_fault, fault_at, missing_fault, number_fault, section_fault, shape_line, unbuilt_fault}
+use Rattle.job_load.specs.Labels.{labels_fault}
 use Rattle.job_load.specs.Mapping.{graph_fault, graph_mapped}
 use Rattle.job_load.specs.Mixed.{mixed_fault}
 use Rattle.job_load.specs.Routed.{routes_fault}
@@ -27,8 +28,9 @@ load_fault job =
     (option_or (graph_fault job)
     (option_or (section_fault job)
     (option_or (missing_fault job)
+    (option_or (labels_fault job)
     (option_or (table_fault job)
-    (routes_fault job)))))))
+    (routes_fault job))))))))
 
 -- a fault refuses the job before what comes behind it
 abbrev pub unless : {V : Type 0} → Option LoadFault → Result V LoadFault → Result V LoadFault

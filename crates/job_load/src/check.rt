@@ -7,6 +7,7 @@ ghost use Rattle.job_load.specs.Checked.{Checks};
 use crate::assembly::assemble_all;
 use crate::code::missing_fault;
 use crate::fault::LoadStop;
+use crate::handlers::labelled_fault;
 use crate::map::Mapped;
 use crate::mapping::map_job;
 use crate::mixed::mixed_fault;
@@ -47,6 +48,9 @@ pub(crate) fn check(alloc: Global, job: &Job) -> Result<Checked, LoadStop>
         return Err(LoadStop::Fault(fault));
     }
     if let Some(fault) = missing_fault(&shape, job, asms.as_slice()) {
+        return Err(LoadStop::Fault(fault));
+    }
+    if let Some(fault) = labelled_fault(alloc, job.asms.as_slice(), &mapped)? {
         return Err(LoadStop::Fault(fault));
     }
     if let Some(fault) = table_fault(alloc, &shape, job)? {

@@ -8,6 +8,7 @@ mod assembly;
 mod check;
 mod code;
 pub mod fault;
+mod handlers;
 mod image;
 pub mod laws;
 pub mod load;
