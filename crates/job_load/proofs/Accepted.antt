@@ -22,6 +22,7 @@ use Rattle.job_load.specs.Assembly.{sections_of}
 use Rattle.job_load.specs.Faults.{asm_fault, beat_fault, beat_lines, fault_at, fill_fault, has_board, missing_fault, number_fault, place_fault, section_fault, shape_line, unbuilt_fault, unbuilt_line}
 use Rattle.job_load.specs.Images.{IsWithin}
 use Rattle.job_load.specs.Labels.{labels_fault}
+use Rattle.job_load.specs.Room.{room_fault}
 use Rattle.job_load.specs.Laws.{IsFreshPart, IsStart}
 use Rattle.job_load.specs.Loaded.{load_fault, loaded, unless}
 use Rattle.job_load.specs.Mapping.{graph_fault}
@@ -122,6 +123,7 @@ pub record Faultless (job : Job) : Type 0 where
   pub sections : section_fault job ≡ None
   pub missing : missing_fault job ≡ None
   pub labels : labels_fault job ≡ None
+  pub room : room_fault job ≡ None
   pub tables : table_fault job ≡ None
   pub routes : routes_fault job ≡ None
 
@@ -134,8 +136,9 @@ each_none job e =
     let five = or_neither (section_fault job) _ four.1 in
     let six = or_neither (missing_fault job) _ five.1 in
     let seven = or_neither (labels_fault job) _ six.1 in
-    let eight = or_neither (table_fault job) (routes_fault job) seven.1 in
-    record { numbers = one.0; mixed = two.0; assembly = three.0; graph = four.0; sections = five.0; missing = six.0; labels = seven.0; tables = eight.0; routes = eight.1 }
+    let eight = or_neither (room_fault job) _ seven.1 in
+    let nine = or_neither (table_fault job) (routes_fault job) eight.1 in
+    record { numbers = one.0; mixed = two.0; assembly = three.0; graph = four.0; sections = five.0; missing = six.0; labels = seven.0; room = eight.0; tables = nine.0; routes = nine.1 }
 
 pub accepted : (job : Job) (w : WorldView) → loaded job ≡ Ok w → IsStart job w
 accepted job w e =

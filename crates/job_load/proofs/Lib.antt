@@ -10,4 +10,5 @@ pub mod Maps
 pub mod Memory
 pub mod Named
 pub mod Ranges
+pub mod Rooms
 pub mod Starts

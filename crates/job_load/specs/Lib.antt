@@ -10,6 +10,7 @@ pub mod Loaded
 pub mod Mapping
 pub mod Mixed
 pub mod Names
+pub mod Room
 pub mod Routed
 pub mod Start
 pub mod Tables

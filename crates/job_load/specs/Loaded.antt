@@ -1,7 +1,5 @@
 -- What a job makes: its machine at the start, or its graph with places and routes, or the first fault.
---
--- One test of jobs with a graph is still missing: that the states of a thread's devices leave room in its memory. A job with a graph or a
--- host's line makes no machine yet.
+-- A job with a graph or a host's line makes no machine yet.
 use Rattle.std.specs.Prelude.{ℕ, Option, Some, None}
 use Rattle.std.specs.Option.{option_or}
 use Rattle.std.specs.declared.result.Result.{Result}
@@ -15,6 +13,7 @@ use Rattle.job_load.specs.Faults.{asm_fault, fault_at, missing_fault, number_fau
 use Rattle.job_load.specs.Labels.{labels_fault}
 use Rattle.job_load.specs.Mapping.{graph_fault, graph_mapped}
 use Rattle.job_load.specs.Mixed.{mixed_fault}
+use Rattle.job_load.specs.Room.{room_fault}
 use Rattle.job_load.specs.Routed.{routes_fault}
 use Rattle.job_load.specs.Start.{start_of}
 use Rattle.job_load.specs.Tables.{table_fault}
@@ -29,8 +28,9 @@ load_fault job =
     (option_or (section_fault job)
     (option_or (missing_fault job)
     (option_or (labels_fault job)
+    (option_or (room_fault job)
     (option_or (table_fault job)
-    (routes_fault job))))))))
+    (routes_fault job)))))))))
 
 -- a fault refuses the job before what comes behind it
 abbrev pub unless : {V : Type 0} → Option LoadFault → Result V LoadFault → Result V LoadFault

@@ -1,5 +1,5 @@
 -- A job's graph, the places of its vertices, and its routes.
-use Rattle.std.specs.Prelude.{ℕ, ◌≡◌, ◌+◌, ◌^◌, Bool, List, [], ◌∷◌, length, nat_lt, slice_index, MatchOption, Option, Some, None, if◌then◌else◌}
+use Rattle.std.specs.Prelude.{ℕ, ◌≡◌, ◌+◌, ◌^◌, ◌<◌, Bool, List, [], ◌∷◌, length, nat_lt, slice_index, MatchOption, Option, Some, None, if◌then◌else◌}
 use Rattle.std.specs.declared.result.Result.{Result}
 use Rattle.std.specs.declared.result.Result.TheVariants.{Ok, Err}
 use Rattle.tn_base.specs.declared.shape.ShapeNumbers.{ShapeNumbers}
@@ -18,7 +18,7 @@ use Rattle.graph_text.specs.Text.{graph_of}
 use Rattle.polite_place.specs.declared.placement.PlaceStop.{PlaceStop}
 use Rattle.polite_place.specs.declared.placement.Seat.{Seat}
 use Rattle.polite_place.specs.Outs.{outs_of}
-use Rattle.polite_place.specs.Seats.{placed}
+use Rattle.polite_place.specs.Seats.{placed, seat_of}
 use Rattle.polite_routes.specs.declared.routes.RouteSet.{RouteSet}
 use Rattle.polite_routes.specs.declared.target.RouteStop.{RouteStop}
 use Rattle.polite_routes.specs.declared.target.RouteStop.TheVariants as route
@@ -145,6 +145,7 @@ graph_mapped job = value_of_map (mapped_by job.numbers job.graph)
 pub record IsMapped (m : Mapped) : Type 0 where
   pub graph : IsGraph m.graph
   pub seats : length m.placement ≡ length m.graph.vertices
+  pub low : (v : ℕ) → v < length m.placement → (seat_of m.placement v).thread.0 < 16384
 
 abbrev pub AreMapped : Option Mapped → Type 0
 AreMapped o = MatchOption o (Unit {0}) IsMapped

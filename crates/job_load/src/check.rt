@@ -12,6 +12,7 @@ use crate::map::Mapped;
 use crate::mapping::map_job;
 use crate::mixed::mixed_fault;
 use crate::numbers::shape_of;
+use crate::room::room_fault;
 use crate::routed::routed_fault;
 use crate::sections::section_fault;
 use crate::tables::table_fault;
@@ -51,6 +52,9 @@ pub(crate) fn check(alloc: Global, job: &Job) -> Result<Checked, LoadStop>
         return Err(LoadStop::Fault(fault));
     }
     if let Some(fault) = labelled_fault(alloc, job.asms.as_slice(), &mapped)? {
+        return Err(LoadStop::Fault(fault));
+    }
+    if let Some(fault) = room_fault(alloc, &shape, &job.graph, &mapped)? {
         return Err(LoadStop::Fault(fault));
     }
     if let Some(fault) = table_fault(alloc, &shape, job)? {

@@ -16,6 +16,7 @@ pub mod map;
 mod mapping;
 mod mixed;
 pub mod numbers;
+mod room;
 mod routed;
 mod sections;
 mod start;

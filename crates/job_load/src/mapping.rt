@@ -10,6 +10,7 @@ ghost use Rattle.graph_text.specs.Graph.{IsGraph};
 ghost use Rattle.polite_place.specs.Seats.{Places};
 ghost use Rattle.polite_routes.specs.Answer.{Routes};
 ghost use Rattle.job_load.specs.Gives.{Gives};
+ghost use Rattle.job_load.specs.Room.{AreLow};
 ghost use Rattle.job_load.specs.Mapping.{AreMapped, IsMapped, Maps, graph_said, has_numbers, is_long, lines_flits, mapped_by, placed_as, placed_on, routed_as, routed_on, section_mapped, text_graph, words_flits};
 
 use crate::fault::{FaultName, LoadFault, LoadStop};
@@ -145,7 +146,8 @@ fn place_graph(
 fn seat_all(shape: &Shape, graph: &Graph, placement: &Placement)
     requires graph { IsGraph graph.now }
     requires placement { Ok placement.now ≡ placed_on shape.now graph.now }
-    ensures { length placement.now ≡ length graph.now.vertices }
+    ensures seats { length placement.now ≡ length graph.now.vertices }
+    ensures low { AreLow placement.now }
 {
     law_served(shape, graph, placement);
 }
