@@ -5,7 +5,7 @@ use tn_base::message::Dest;
 
 /// What a step asks of its tile: an `Op` without the bytes of a send. A step hands it on through many calls, and so it is small.
 #[derive(Clone, Copy)]
-pub(crate) enum Ask {
+pub enum Ask {
     /// Nothing.
     None,
     /// Send the message in the send slot.

@@ -5,7 +5,7 @@
 #![tactic(auto)]
 
 pub mod alone;
-mod ask;
+pub mod ask;
 pub mod command;
 pub mod memory;
 pub mod place;

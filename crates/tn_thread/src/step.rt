@@ -1,6 +1,6 @@
 //! One step of a thread.
 
-ghost use Rattle.std.specs.Prelude.{◌≡◌, ◌≤◌, ◌<◌, ◌+◌, ◌*◌, ◌%◌, ◌==◌, ◌^◌, ◌≢◌, IsTrue};
+ghost use Rattle.std.specs.Prelude.{◌≡◌, ◌≤◌, ◌<◌, ◌+◌, ◌*◌, ◌%◌, ◌==◌, ◌^◌, ◌≢◌, IsTrue, take};
 ghost use Rattle.tn_base.specs.declared.op.Op.TheVariants as op;
 ghost use Rattle.tn_thread.specs.Asks.{asks, op_of};
 ghost use Rattle.tn_thread.specs.Fits.{StepFits};
@@ -54,8 +54,20 @@ impl Thread {
         ensures step { record { thread = self.new; op = result } ≡ stepped effect (V.sight view.now) self.old }
         ensures fits { StepFits (V.sight view.now) self.old (record { thread = self.new; op = result }) }
     {
-        let ask = self.act(effect, view);
+        let ask = self.apply_asking(effect, view);
         self.op_of(ask)
+    }
+
+    /// The same step, which hands on what the thread asks without the message of a send: `message` reads the message.
+    #[inline(always)]
+    pub fn apply_asking<V: View>(&mut self, effect: Effect, view: &V) -> Ask
+        requires running { self.old.state ≡ ThreadState.Run }
+        requires fuel { self.old.steps < self.old.shape.fuel }
+        requires fits { FitsStep effect }
+        ensures step { asks result self.new ≡ stepped effect (V.sight view.now) self.old }
+        ensures fits { StepFits (V.sight view.now) self.old (asks result self.new) }
+    {
+        self.act(effect, view)
     }
 
     /// The completion of a wait or an idle: an idle reads its answer into its register.
@@ -66,8 +78,28 @@ impl Thread {
         ensures step { record { thread = self.new; op = result } ≡ resumed self.old }
         ensures fits { StepFits (V.sight view.now) self.old (record { thread = self.new; op = result }) }
     {
-        let ask = self.wake();
+        let ask = self.resume_asking(view);
         self.op_of(ask)
+    }
+
+    /// The same completion, which hands on what the thread asks without the message of a send.
+    #[inline(always)]
+    pub fn resume_asking<V: View>(&mut self, view: &V) -> Ask
+        requires runnable { IsTrue (runnable (V.sight view.now) self.old.state) }
+        requires suspended { self.old.state ≢ ThreadState.Run }
+        requires fuel { self.old.steps < self.old.shape.fuel }
+        ensures step { asks result self.new ≡ resumed self.old }
+        ensures fits { StepFits (V.sight view.now) self.old (asks result self.new) }
+    {
+        self.wake()
+    }
+
+    /// The message in the send slot: its first flits.
+    #[inline(always)]
+    pub fn message(&self) -> Bytes
+        ensures { result ≡ take (16 * (self.now.out.last + 1)) self.now.out.bytes }
+    {
+        self.out.message()
     }
 
     /// Tells a thread that is idle that the machine is at rest.
@@ -177,7 +209,7 @@ impl Thread {
     {
         match ask {
             Ask::None => Op::None,
-            Ask::Send(dest) => Op::Send(dest, self.out.message()),
+            Ask::Send(dest) => Op::Send(dest, self.message()),
             Ask::Hand => Op::Hand,
             Ask::Free(slot) => Op::Free(slot),
             Ask::Idle(vote) => Op::Idle(vote),
