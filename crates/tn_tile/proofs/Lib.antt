@@ -1,3 +1,4 @@
+pub mod Asked
 pub mod Dead
 pub mod Deeds
 pub mod Elsewhere

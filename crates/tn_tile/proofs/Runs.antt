@@ -52,9 +52,8 @@ pub record Further (n : ℕ) (code : List (Option Instr)) (seen : Sight) (start 
   pub steps : alone_steps n code seen (record { pc = start.pc; thread = start }) ≡ Some (record { pc = pc; thread = t })
   pub stays : Stays start t
 
-pub further : (n : ℕ) (code : List (Option Instr)) (seen : Sight) (start t new : Thread) (pc next : ℕ) (r : Option ℕ) → Further n code seen start t pc → Goes r (alone_at (slice_get code (pc / 4)) seen pc t) t new → r ≡ Some next → Further (n + 1) code seen start new next
-further n code seen start t new pc next r f goes e =
-    let step : next_alone code seen (record { pc = pc; thread = t }) ≡ Some (record { pc = next; thread = new }) = goes_is r _ t new next goes e in
+pub further : (n : ℕ) (code : List (Option Instr)) (seen : Sight) (start t new : Thread) (pc next : ℕ) → Further n code seen start t pc → alone_at (slice_get code (pc / 4)) seen pc t ≡ Some (record { pc = next; thread = new }) → Further (n + 1) code seen start new next
+further n code seen start t new pc next f step =
     record {
       steps = rw add-one (alone_more n code seen (record { pc = start.pc; thread = start }) (record { pc = pc; thread = t }) (record { pc = next; thread = new }) f.steps step);
       stays = stays_more start t new f.stays (at_stays (slice_get code (pc / 4)) seen pc t (record { pc = next; thread = new }) step);

@@ -1,5 +1,5 @@
 -- What steps that ask nothing of the tile make of it: they are steps of the thread at its place.
-use Rattle.std.proofs.Common.{ℕ, ◌≡◌, ◌≤◌, ◌<◌, ◌+◌, ◌/◌, suc, zero, List, [], ◌∷◌, true, length, set, refl, sym, ap, subst, ◌∙◌, arith, Option, Some, None, option_and_then, option_map, slice_get}
+use Rattle.std.proofs.Common.{ℕ, ◌≡◌, ◌≤◌, ◌<◌, ◌+◌, ◌/◌, suc, zero, List, [], ◌∷◌, true, length, set, refl, sym, ap, subst, ◌∙◌, arith, Option, Some, None, option_and_then, option_map, slice_get, slice_index_or}
 use Rattle.std.proofs.lemmas.Bool.{lt-ltb}
 use Rattle.std.proofs.lemmas.List.{get_or-set_same, length-set, set-get_or}
 use Rattle.rv_isa.specs.declared.instr.Instr.{Instr}
@@ -31,7 +31,7 @@ map_some f None y e = cc e
 map_some f (Some x) y e = (x, refl, cc e)
 
 -- a thread that runs executes what stands at its pc
-fetched_runs : (s : ThreadState) (code : List (Option Instr)) (t : Thread) → s ≡ state.Run → fetched_by s code t ≡ fetched_at (slice_get code (t.pc / 4)) t
+pub fetched_runs : (s : ThreadState) (code : List (Option Instr)) (t : Thread) → s ≡ state.Run → fetched_by s code t ≡ fetched_at (slice_get code (t.pc / 4)) t
 fetched_runs state.Run code t h = refl
 fetched_runs (state.Wait waits) code t h = cc h
 fetched_runs (state.Idle vote) code t h = cc h
@@ -39,7 +39,7 @@ fetched_runs (state.Answered value) code t h = cc h
 fetched_runs (state.Dead value) code t h = cc h
 fetched_runs (state.Trapped why) code t h = cc h
 
-run_can : (s : ThreadState) (seen : Sight) → s ≡ state.Run → runnable seen s ≡ true
+pub run_can : (s : ThreadState) (seen : Sight) → s ≡ state.Run → runnable seen s ≡ true
 run_can state.Run seen h = refl
 run_can (state.Wait waits) seen h = cc h
 run_can (state.Idle vote) seen h = cc h
@@ -47,7 +47,7 @@ run_can (state.Answered value) seen h = cc h
 run_can (state.Dead value) seen h = cc h
 run_can (state.Trapped why) seen h = cc h
 
-abbrev turned_from : Sight → Fetched → Stepped
+abbrev pub turned_from : Sight → Fetched → Stepped
 turned_from seen f = turned f.effect seen f.thread
 
 at_is : (o : Option (Option Instr)) (seen : Sight) (m pc : ℕ) (t : Thread) (g : Going) → alone_at o seen pc t ≡ Some g → t.state ≡ state.Run → turned_from seen (fetched_at o (caught_up m pc t)) ≡ caught m g
@@ -106,6 +106,17 @@ steps_stay (suc n) code seen g h e =
     let first = and_then_some (alone_steps n code seen) (next_alone code seen g) h e in
     let j = first.0 in
     stays_more g.thread j.thread h.thread (at_stays (slice_get code (g.pc / 4)) seen g.pc g.thread j first.1) (steps_stay n code seen j h first.2)
+
+-- they keep the thread's state, and count
+pub ran_stays : (code : List (Option Instr)) (seen : Sight) (old new : List Thread) (k n : ℕ) → k < length old → RanAlone k n code seen old new → ((slice_index_or new k no_thread).state ≡ (slice_index_or old k no_thread).state) × ((slice_index_or new k no_thread).steps ≡ (slice_index_or old k no_thread).steps + n)
+ran_stays code seen old new k n within r =
+    let t = slice_index_or old k no_thread in
+    let went = map_some (λ (g : Going). caught_up n g.pc g.thread) (alone_steps n code seen (record { pc = t.pc; thread = t })) r.thread r.went in
+    let g = went.0 in
+    let stays : Stays t g.thread = steps_stay n code seen (record { pc = t.pc; thread = t }) g went.1 in
+    let there : slice_index_or new k no_thread ≡ r.thread = ap (λ ts. slice_index_or ts k no_thread) r.put ∙ get_or-set_same old k r.thread no_thread within in
+    let same : slice_index_or new k no_thread ≡ caught_up n g.pc g.thread = there ∙ went.2 in
+    (ap (λ (x : Thread). x.state) same ∙ stays.state, ap (λ (x : Thread). x.steps) same ∙ ap (λ i. i + n) stays.steps)
 
 caught_none : (t : Thread) → t ≡ caught_up 0 t.pc t
 caught_none t = let count : t.steps ≡ t.steps + 0 = omega arith in ap (λ s. record t { steps = s }) count

@@ -1,8 +1,11 @@
 //! One step of a thread over a code.
 
-ghost use Rattle.std.specs.Prelude.{◌≡◌, ◌<◌, ◌/◌, IsTrue, slice_get};
+ghost use Rattle.std.specs.Prelude.{◌≡◌, ◌≢◌, ◌<◌, ◌/◌, IsTrue, slice_get};
+ghost use Rattle.tn_base.specs.declared.op.Op.TheVariants as op;
+ghost use Rattle.tn_thread.specs.Asks.{asks};
 ghost use Rattle.tn_thread.specs.Fits.{StepFits};
 ghost use Rattle.tn_thread.specs.Step.{FitsStep, runnable};
+ghost use Rattle.tn_tile.specs.Alone.{NextIs};
 ghost use Rattle.tn_tile.specs.Step.{fetched_at, next_step};
 
 use rv_exec::exec::exec;
@@ -10,6 +13,7 @@ use rv_isa::instr::Instr;
 use tn_base::effect::Effect;
 use tn_base::event::Trap;
 use tn_base::op::Op;
+use tn_thread::ask::Ask;
 use tn_thread::state::ThreadState;
 use tn_thread::thread::Thread;
 use tn_thread::view::View;
@@ -29,6 +33,34 @@ pub(crate) fn advance<V: View>(code: &[Option<Instr>], thread: &mut Thread, sigh
         }
         _ => thread.resume(sight),
     }
+}
+
+/// The step of a thread that runs, whose next instruction has this effect.
+#[inline(always)]
+pub(crate) fn apply_next<V: View>(
+    _code: &[Option<Instr>],
+    thread: &mut Thread,
+    sight: &V,
+    effect: Effect,
+) -> Ask
+    requires running { thread.old.state ≡ ThreadState.Run }
+    requires fuel { thread.old.steps < thread.old.shape.fuel }
+    requires next { NextIs _code.now effect thread.old }
+    ensures step { asks result thread.new ≡ next_step _code.now (V.sight sight.now) thread.old }
+    ensures fits { StepFits (V.sight sight.now) thread.old (asks result thread.new) }
+{
+    thread.apply_asking(effect, sight)
+}
+
+/// The next step of a thread that waits or is idle: it asks nothing.
+#[inline(always)]
+pub(crate) fn resume_next<V: View>(_code: &[Option<Instr>], thread: &mut Thread, sight: &V)
+    requires runnable { IsTrue (runnable (V.sight sight.now) thread.old.state) }
+    requires suspended { thread.old.state ≢ ThreadState.Run }
+    requires fuel { thread.old.steps < thread.old.shape.fuel }
+    ensures { record { thread = thread.new; op = op.None } ≡ next_step _code.now (V.sight sight.now) thread.old }
+{
+    let _nothing = thread.resume_asking(sight);
 }
 
 /// Executes the instruction at a thread's pc: what it writes to the registers, and its effect.

@@ -1,53 +1,76 @@
 //! Steps of a thread that ask nothing of its tile, in a loop of their own: most steps are such ones.
 
-ghost use Rattle.std.specs.Prelude.{◌≡◌, ◌≤◌, ◌<◌, ◌+◌, ◌/◌, ◌^◌, Some, slice_get};
-ghost use Rattle.tn_thread.specs.Alone.{Goes};
-ghost use Rattle.tn_tile.specs.Alone.{alone_at, went_alone};
+ghost use Rattle.std.specs.Prelude.{◌≡◌, ◌<◌, ◌+◌, ◌/◌, ◌^◌, MatchResult, Some, slice_get};
+ghost use Rattle.tn_thread.specs.Step.{FitsStep};
+ghost use Rattle.tn_tile.specs.Alone.{AsksAt, Fetches, Stops, alone_at, went_alone};
 
 use rv_exec::exec::exec;
 use rv_isa::instr::Instr;
+use tn_base::effect::Effect;
+use tn_base::event::Trap;
 use tn_thread::thread::Thread;
 use tn_thread::view::View;
 
-/// Makes steps of a thread that runs, as long as they ask nothing of its tile, and at most so many.
+/// Makes steps of a thread that runs, as long as they ask nothing of its tile, and at most so many. It says how many, and
+/// if it stopped before the most, the effect of the next instruction.
+#[inline(always)]
 pub(crate) fn run_code<V: View>(
     code: &[Option<Instr>],
     thread: &mut Thread,
     sight: &V,
     most: u32,
-) -> u32
+) -> (u32, Option<Effect>)
     requires { thread.old.steps + most < 2 ^ 32 }
-    ensures steps { went_alone result code.now (V.sight sight.now) thread.old ≡ Some thread.new }
-    ensures few { result ≤ most }
+    ensures steps { went_alone result.0 code.now (V.sight sight.now) thread.old ≡ Some thread.new }
+    ensures next { Stops result.0 result.1 most code.now thread.new }
 {
     let mut pc = thread.pc();
     let mut made = 0;
     while made < most {
-        let Some(next) = step_alone(code, pc, thread, sight) else {
-            break;
-        };
-        pc = next;
-        made += 1;
+        match step_alone(code, pc, thread, sight) {
+            Ok(next) => {
+                pc = next;
+                made += 1;
+            }
+            Err(effect) => {
+                thread.catch_up(made, pc);
+                return (made, Some(effect));
+            }
+        }
     }
     thread.catch_up(made, pc);
-    made
+    (made, None)
 }
 
-/// Executes the instruction at `pc`, where its step asks nothing of the tile, and says where the thread goes on.
+/// Executes the instruction at `pc`. If its step asks nothing of the tile, it says where the thread goes on, else it gives
+/// the effect, and the thread stays as it was.
 #[inline(always)]
 fn step_alone<V: View>(
     code: &[Option<Instr>],
     pc: u32,
     thread: &mut Thread,
     sight: &V,
-) -> Option<u32>
-    ensures { Goes result (alone_at (slice_get code.now (pc / 4)) (V.sight sight.now) pc thread.old) thread.old thread.new }
+) -> Result<u32, Effect>
+    ensures { MatchResult result
+        (λ next. alone_at (slice_get code.now (pc / 4)) (V.sight sight.now) pc thread.old ≡ Some (record { pc = next; thread = thread.new }))
+        (λ effect. (AsksAt (slice_get code.now (pc / 4)) effect pc thread.old × (thread.new ≡ thread.old)) × FitsStep effect) }
+{
+    let effect = fetch_at(code, pc, thread);
+    match thread.go_alone(effect, sight, pc) {
+        Some(next) => Ok(next),
+        None => Err(effect),
+    }
+}
+
+/// Executes the instruction at `pc`: what it writes to the registers, and its effect.
+#[inline(always)]
+fn fetch_at(code: &[Option<Instr>], pc: u32, thread: &mut Thread) -> Effect
+    ensures row { Fetches (slice_get code.now (pc / 4)) result pc thread.old thread.new }
+    ensures fits { FitsStep result }
 {
     match code.get((pc / 4) as usize) {
-        Some(Some(i)) => {
-            let effect = exec(i, pc, &mut thread.regs);
-            thread.go_alone(effect, sight, pc)
-        }
-        _ => None,
+        None => Effect::Trap(Trap::BadFetch),
+        Some(None) => Effect::Trap(Trap::BadInstr),
+        Some(Some(i)) => exec(i, pc, &mut thread.regs),
     }
 }

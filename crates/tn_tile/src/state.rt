@@ -1,26 +1,28 @@
 //! What events change of a tile.
 
-ghost use Rattle.std.specs.Prelude.{◌≡◌, ◌≤◌, ◌<◌, ◌+◌, ◌↔◌, ◌^◌, IfOk, IsTrue, Some, false, length};
-ghost use Rattle.tn_base.specs.Address.{tile_threads};
+ghost use Rattle.std.specs.Prelude.{◌≡◌, ◌≢◌, ◌≤◌, ◌<◌, ◌+◌, ◌-◌, ◌*◌, ◌↔◌, ◌^◌, IfOk, IsTrue, Some, false, length, min, slice_set, take};
+ghost use Rattle.tn_base.specs.Address.{in_tile, tile_threads};
 ghost use Rattle.tn_slots.specs.Pool.{Holds, freed, left, queue_at};
 ghost use Rattle.tn_tile.specs.Kept.{HasPlace, IsFit};
 ghost use Rattle.tn_tile.specs.Same.{SameCounts, SameMessages, SameState};
-ghost use Rattle.tn_tile.specs.Step.{can_step, noted, stepped, steps_of};
+ghost use Rattle.tn_tile.specs.Alone.{Advanced, NextIs, StillRuns, Stops};
+ghost use Rattle.tn_tile.specs.Step.{can_step, noted, stepped, steps_of, thread_at};
 ghost use Rattle.tn_tile.specs.Turns.{StepsUpTo};
 
-use crate::advance::advance;
+use crate::advance::{apply_next, resume_next};
 use crate::pending::Pending;
 use crate::plan::Plan;
 use crate::sender::Senders;
 use crate::sight::TileSight;
 use crate::threads::Threads;
 use std::alloc::AllocError;
+use tn_base::effect::Effect;
 use tn_base::event::Trap;
 use tn_base::ids::ThreadId;
-use tn_base::message::Packet;
-use tn_base::op::Op;
+use tn_base::message::{Dest, Packet};
 use tn_node::node::Node;
 use tn_slots::pool::Pool;
+use tn_thread::ask::Ask;
 use tn_thread::state::ThreadState;
 
 /// The threads of a tile, the pool of their message slots, the packets that they sent and those that go on to other parts.
@@ -77,29 +79,64 @@ impl TileState {
         ensures { StepsUpTo plan.now place most result self.old self.new }
     {
         let fuel = plan.fuel();
-        let mut made = self.run_alone(plan, place, most);
+        let mut made = 0;
         while made < most && self.can_step(fuel, place) {
-            self.step(plan, place);
-            made += 1;
-            made += self.run_alone(plan, place, most - made);
+            made += self.advance(plan, place, most - made);
         }
         made
     }
 
-    /// Makes steps of the thread at a place that ask nothing of the tile: at most this many, and none past the fuel.
-    fn run_alone(&mut self, plan: &Plan, place: u32, most: u32) -> u32
+    /// Makes at least one step of the thread at a place, at most this many, and says how many.
+    #[inline(always)]
+    fn advance(&mut self, plan: &Plan, place: u32, most: u32) -> u32
         requires there { place < tile_threads plan.now.shape }
         requires fits { IsFit plan.now self.old }
-        ensures steps { steps_of plan.now place result self.old ≡ Some self.new }
-        ensures few { result ≤ most }
-        ensures count { self.new.dropped ≡ self.old.dropped }
+        requires can { IsTrue (can_step plan.now.shape.fuel place self.old) }
+        requires some { 0 < most }
+        requires counts { self.old.dropped < 2 ^ 63 + 2 ^ 15 }
+        ensures { Advanced plan.now place most result self.old self.new }
+    {
+        match self.threads.get(place).state() {
+            ThreadState::Run => self.run(plan, place, most),
+            _ => {
+                self.wake(plan, place);
+                1
+            }
+        }
+    }
+
+    /// Makes steps of a thread that runs: those that ask nothing of the tile, and the step behind them.
+    #[inline(always)]
+    fn run(&mut self, plan: &Plan, place: u32, most: u32) -> u32
+        requires there { place < tile_threads plan.now.shape }
+        requires fits { IsFit plan.now self.old }
+        requires can { IsTrue (can_step plan.now.shape.fuel place self.old) }
+        requires runs { (thread_at self.old place).state ≡ ThreadState.Run }
+        requires some { 0 < most }
+        requires counts { self.old.dropped < 2 ^ 63 + 2 ^ 15 }
+        ensures { Advanced plan.now place most result self.old self.new }
+    {
+        let (made, asked) = self.run_alone(plan, place, most);
+        let Some(effect) = asked else {
+            return made;
+        };
+        self.apply(plan, place, effect);
+        made + 1
+    }
+
+    /// Makes steps of the thread at a place, which runs, that ask nothing of the tile: at most this many, and none past the fuel.
+    /// It says how many, and if it stopped before that, the effect of the next instruction.
+    #[inline(always)]
+    fn run_alone(&mut self, plan: &Plan, place: u32, most: u32) -> (u32, Option<Effect>)
+        requires there { place < tile_threads plan.now.shape }
+        requires fits { IsFit plan.now self.old }
+        requires runs { (thread_at self.old place).state ≡ ThreadState.Run }
+        ensures steps { steps_of plan.now place result.0 self.old ≡ Some self.new }
+        ensures next { Stops result.0 result.1 (min most (plan.now.shape.fuel - (thread_at self.old place).steps)) plan.now.code (thread_at self.new place) }
+        ensures stays { StillRuns result.0 place self.old self.new }
     {
         let fuel = plan.fuel();
-        let thread = self.threads.get(place);
-        let ThreadState::Run = thread.state() else {
-            return 0;
-        };
-        let left = fuel - thread.steps();
+        let left = fuel - self.threads.get(place).steps();
         let sight = TileSight {
             pool: &self.pool,
             place,
@@ -109,12 +146,14 @@ impl TileState {
             .run_alone(place, plan.code(), &sight, most.min(left))
     }
 
-    /// One step of the thread at a place.
+    /// The step of the thread at a place, which runs, whose instruction has this effect.
     #[inline(always)]
-    fn step(&mut self, plan: &Plan, place: u32)
+    fn apply(&mut self, plan: &Plan, place: u32, effect: Effect)
         requires there { place < tile_threads plan.now.shape }
         requires fits { IsFit plan.now self.old }
         requires can { IsTrue (can_step plan.now.shape.fuel place self.old) }
+        requires runs { (thread_at self.old place).state ≡ ThreadState.Run }
+        requires next { NextIs plan.now.code effect (thread_at self.old place) }
         requires counts { self.old.dropped < 2 ^ 63 + 2 ^ 16 }
         ensures row { self.new ≡ stepped plan.now.code place self.old }
         ensures count { self.new.dropped ≤ self.old.dropped + 512 }
@@ -127,24 +166,52 @@ impl TileState {
         let threads = &mut self.threads;
         let thread = &mut threads.items[place as usize];
         let number = thread.sends();
-        match advance(plan.code(), thread, &sight) {
-            Op::None | Op::Idle(_) => {}
-            Op::Send(dest, bytes) => {
-                let packet = Packet {
-                    origin: plan.thread(place).0,
-                    number,
-                    dest,
-                    bytes,
-                };
-                self.pending.put(place, packet);
-            }
-            Op::Hand => {
+        match apply_next(plan.code(), thread, &sight, effect) {
+            Ask::None | Ask::Idle(_) => {}
+            Ask::Send(dest) => self.post(plan, place, number, dest),
+            Ask::Hand => {
                 let _taken = self.pool.take(place);
             }
-            Op::Free(slot) => self.free(place, slot),
-            Op::Kill(_) => self.leave(place),
-            Op::Trap(why) => self.note(plan.thread(place), why),
+            Ask::Free(slot) => self.free(place, slot),
+            Ask::Kill(_) => self.leave(place),
+            Ask::Trap(why) => self.note(plan.thread(place), why),
         }
+    }
+
+    /// The thread at a place, which waits or is idle, runs again.
+    #[inline(always)]
+    fn wake(&mut self, plan: &Plan, place: u32)
+        requires there { place < tile_threads plan.now.shape }
+        requires fits { IsFit plan.now self.old }
+        requires can { IsTrue (can_step plan.now.shape.fuel place self.old) }
+        requires suspended { (thread_at self.old place).state ≢ ThreadState.Run }
+        ensures row { self.new ≡ stepped plan.now.code place self.old }
+        ensures count { self.new.dropped ≡ self.old.dropped }
+    {
+        let sight = TileSight {
+            pool: &self.pool,
+            place,
+            can_send: self.pending.is_free(place),
+        };
+        let threads = &mut self.threads;
+        let thread = &mut threads.items[place as usize];
+        resume_next(plan.code(), thread, &sight);
+    }
+
+    /// The message in a thread's send slot is pending from now on, as the thread's packet of this number.
+    fn post(&mut self, plan: &Plan, place: u32, number: u32, dest: Dest)
+        requires there { place < tile_threads plan.now.shape }
+        requires thread { place < length self.old.threads }
+        requires pending { place < length self.old.pending }
+        ensures { self.new ≡ record self.old { pending = slice_set self.old.pending place (Some (record { origin = in_tile plan.now.shape plan.now.tile place; number = number; dest = dest; bytes = take (16 * ((thread_at self.old place).out.last + 1)) (thread_at self.old place).out.bytes })) } }
+    {
+        let packet = Packet {
+            origin: plan.thread(place).0,
+            number,
+            dest,
+            bytes: self.threads.get(place).message(),
+        };
+        self.pending.put(place, packet);
     }
 
     /// The thread at a place gives up a slot that it holds.

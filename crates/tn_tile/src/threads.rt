@@ -1,7 +1,7 @@
 //! The threads of a tile.
 
 ghost use Rattle.std.specs.Prelude.{◌≡◌, ◌≤◌, ◌<◌, ◌↔◌, ◌+◌, ◌^◌, IfOk, IsTrue, length, map, slice_index_or, slice_set};
-ghost use Rattle.tn_tile.specs.Alone.{RanAlone};
+ghost use Rattle.tn_tile.specs.Alone.{RanAlone, Stops};
 ghost use Rattle.tn_tile.specs.Receivers.{is_dead};
 ghost use Rattle.tn_tile.specs.Rows.{told};
 ghost use Rattle.tn_tile.specs.Step.{no_thread};
@@ -10,6 +10,7 @@ use crate::alone::run_code;
 use rv_isa::instr::Instr;
 use std::alloc::AllocError;
 use std::marker::Model;
+use tn_base::effect::Effect;
 use tn_thread::state::ThreadState;
 use tn_thread::thread::Thread;
 use tn_thread::view::View;
@@ -70,11 +71,11 @@ impl Threads {
         code: &[Option<Instr>],
         sight: &V,
         most: u32,
-    ) -> u32
+    ) -> (u32, Option<Effect>)
         requires there { at < length self.old }
         requires fuel { (slice_index_or self.old at no_thread).steps + most < 2 ^ 32 }
-        ensures steps { RanAlone at result code.now (V.sight sight.now) self.old self.new }
-        ensures few { result ≤ most }
+        ensures steps { RanAlone at result.0 code.now (V.sight sight.now) self.old self.new }
+        ensures next { Stops result.0 result.1 most code.now (slice_index_or self.new at no_thread) }
     {
         let thread = &mut self.items[at as usize];
         run_code(code, thread, sight, most)

@@ -8,5 +8,5 @@ loop-made-init g c = (omega arith, further_none c.args.code.now (g.V.View.sight 
 pub loop-made-preserved : goal.loop-made-preserved
 loop-made-preserved g c = (
   omega arith,
-  further c.loop-made.made c.args.code.now (g.V.View.sight c.args.sight.now) c.args.thread.now c.loop-made.thread c.step_alone.new.thread c.loop-made.pc c.in-Some.next c.step_alone.result c.loop-made.invariant.1 c.step_alone.ensures c.in-Some.is,
+  further c.loop-made.made c.args.code.now (g.V.View.sight c.args.sight.now) c.args.thread.now c.loop-made.thread c.step_alone.new.thread c.loop-made.pc c.in-Ok.next c.loop-made.invariant.1 c.in-Ok.ensures,
 )

@@ -1,42 +1,25 @@
-use Rattle.std.proofs.Common.{rules, ◌≡◌, ◌+◌, true, Some, arith, add-one}
-use Rattle.tn_tile.specs.Kept.{IsFit}
-use Rattle.tn_tile.specs.Step.{can_step, steps_of}
-use Rattle.tn_tile.proofs.Moved.{step_fits, steps_fit}
+use Rattle.std.proofs.Common.{arith}
+use Rattle.tn_tile.proofs.Moved.{steps_fit}
 use Rattle.tn_tile.proofs.Shaped.{has_place}
-use Rattle.tn_tile.proofs.Steps.{steps_join, steps_more}
+use Rattle.tn_tile.proofs.Steps.{steps_join, steps_none}
 use Rattle.tn_tile.proofs.state.TileState.turn.Goals as goal
 
 pub loop-made-init : goal.loop-made-init
-loop-made-init c =
-    let same = c.run_alone-made.ensures.count in
-    record {
-      few = c.run_alone-made.ensures.few;
-      steps = c.run_alone-made.ensures.steps;
-      fits = steps_fit c.run_alone-made.result c.args.plan.now c.args.place c.args.self.now c.run_alone-made.new.self c.requires.there c.run_alone-made.ensures.steps c.requires.fits;
-      counts = omega arith;
-    }
+loop-made-init c = record { few = omega arith; steps = steps_none c.args.plan.now c.args.place c.args.self.now; fits = c.requires.fits; counts = omega arith }
 
 pub can_step-requires : goal.can_step-requires
 can_step-requires c = has_place c.args.plan.now c.args.place c.loop-made.self c.requires.there c.loop-made.invariant.fits
-
-pub run_alone-made-requires-in-loop-made-clause-fits : goal.run_alone-made-requires-in-loop-made-clause-fits
-run_alone-made-requires-in-loop-made-clause-fits c =
-    let can : can_step c.args.plan.now.shape.fuel c.args.place c.loop-made.self ≡ true = search rules in
-    rw c.step.ensures.row (step_fits c.args.plan.now c.args.place c.loop-made.self c.requires.there can c.loop-made.invariant.fits)
 
 pub loop-made-preserved : goal.loop-made-preserved
 loop-made-preserved c =
     let p = c.args.plan.now in
     let k = c.args.place in
-    let can : can_step p.shape.fuel k c.loop-made.self ≡ true = search rules in
-    let more = c.step.ensures.count in
-    let same = c.run_alone-made-in-loop-made.ensures.count in
-    let few = c.run_alone-made-in-loop-made.ensures.few in
-    let one : steps_of p k (c.loop-made.made + 1) c.args.self.now ≡ Some c.step.new.self = rw (c.step.ensures.row, add-one) (steps_more p k c.loop-made.made c.args.self.now c.loop-made.self c.loop-made.invariant.steps can) in
-    let fits : IsFit p c.step.new.self = rw c.step.ensures.row (step_fits p k c.loop-made.self c.requires.there can c.loop-made.invariant.fits) in
+    let more = c.advance-made.ensures.count in
+    let some = c.advance-made.ensures.some in
+    let few = c.advance-made.ensures.few in
     record {
       few = omega arith;
-      steps = steps_join (c.loop-made.made + 1) c.run_alone-made-in-loop-made.result p k c.args.self.now c.step.new.self c.run_alone-made-in-loop-made.new.self one c.run_alone-made-in-loop-made.ensures.steps;
-      fits = steps_fit c.run_alone-made-in-loop-made.result p k c.step.new.self c.run_alone-made-in-loop-made.new.self c.requires.there c.run_alone-made-in-loop-made.ensures.steps fits;
+      steps = steps_join c.loop-made.made c.advance-made.result p k c.args.self.now c.loop-made.self c.advance-made.new.self c.loop-made.invariant.steps c.advance-made.ensures.steps;
+      fits = steps_fit c.advance-made.result p k c.loop-made.self c.advance-made.new.self c.requires.there c.advance-made.ensures.steps c.loop-made.invariant.fits;
       counts = omega arith;
     }
