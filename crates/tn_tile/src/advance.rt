@@ -1,6 +1,6 @@
 //! One step of a thread over a code.
 
-ghost use Rattle.std.specs.Prelude.{◌≡◌, ◌<◌, ◌/◌, IsTrue, slice_get};
+ghost use Rattle.std.specs.Prelude.{◌≡◌, ◌≤◌, ◌<◌, ◌+◌, ◌/◌, IsTrue, slice_get};
 ghost use Rattle.tn_thread.specs.Fits.{StepFits};
 ghost use Rattle.tn_thread.specs.Step.{FitsStep, runnable};
 ghost use Rattle.tn_tile.specs.Step.{fetched_at, next_step};
@@ -10,22 +10,30 @@ use rv_isa::instr::Instr;
 use tn_base::effect::Effect;
 use tn_base::event::Trap;
 use tn_base::op::Op;
+use tn_pages::stock::PageStock;
 use tn_thread::state::ThreadState;
 use tn_thread::thread::Thread;
 use tn_thread::view::View;
 
 /// A thread's own part of a step, and what it asks of its tile.
 #[inline(always)]
-pub(crate) fn advance<V: View>(code: &[Option<Instr>], thread: &mut Thread, sight: &V) -> Op
+pub(crate) fn advance<V: View>(
+    code: &[Option<Instr>],
+    thread: &mut Thread,
+    sight: &V,
+    stock: &mut PageStock,
+) -> Op
     requires runnable { IsTrue (runnable (V.sight sight.now) thread.old.state) }
     requires fuel { thread.old.steps < thread.old.shape.fuel }
+    requires page { 0 < stock.old }
     ensures step { record { thread = thread.new; op = result } ≡ next_step code.now (V.sight sight.now) thread.old }
     ensures fits { StepFits (V.sight sight.now) thread.old (record { thread = thread.new; op = result }) }
+    ensures stock { stock.old ≤ stock.new + 1 }
 {
     match thread.state() {
         ThreadState::Run => {
             let effect = fetch(code, thread);
-            thread.apply(effect, sight)
+            thread.apply(effect, sight, stock)
         }
         _ => thread.resume(sight),
     }

@@ -20,6 +20,7 @@ use tn_base::ids::ThreadId;
 use tn_base::message::Packet;
 use tn_base::op::Op;
 use tn_node::node::Node;
+use tn_pages::stock::PageStock;
 use tn_slots::pool::Pool;
 use tn_thread::state::ThreadState;
 
@@ -68,31 +69,46 @@ impl TileState {
         made == most && self.can_step(fuel, place)
     }
 
-    /// Makes as many of `most` steps of the thread at a place as it can, and says how many.
-    pub(crate) fn turn(&mut self, plan: &Plan, place: u32, most: u32) -> u32
+    /// Makes as many of `most` steps of the thread at a place as it can, and says how many. A step takes at most one page.
+    pub(crate) fn turn(
+        &mut self,
+        plan: &Plan,
+        place: u32,
+        stock: &mut PageStock,
+        most: u32,
+    ) -> u32
         requires there { place < tile_threads plan.now.shape }
         requires fits { IsFit plan.now self.old }
         requires few { most ≤ 64 }
+        requires pages { most ≤ stock.old }
         requires counts { self.old.dropped < 2 ^ 63 }
         ensures { StepsUpTo plan.now place most result self.old self.new }
     {
         let fuel = plan.fuel();
-        let mut made = self.run_alone(plan, place, most);
+        let mut made = self.run_alone(plan, place, stock, most);
         while made < most && self.can_step(fuel, place) {
-            self.step(plan, place);
+            self.step(plan, place, stock);
             made += 1;
-            made += self.run_alone(plan, place, most - made);
+            made += self.run_alone(plan, place, stock, most - made);
         }
         made
     }
 
     /// Makes steps of the thread at a place that ask nothing of the tile: at most this many, and none past the fuel.
-    fn run_alone(&mut self, plan: &Plan, place: u32, most: u32) -> u32
+    fn run_alone(
+        &mut self,
+        plan: &Plan,
+        place: u32,
+        stock: &mut PageStock,
+        most: u32,
+    ) -> u32
         requires there { place < tile_threads plan.now.shape }
         requires fits { IsFit plan.now self.old }
+        requires pages { most ≤ stock.old }
         ensures steps { steps_of plan.now place result self.old ≡ Some self.new }
         ensures few { result ≤ most }
         ensures count { self.new.dropped ≡ self.old.dropped }
+        ensures stock { stock.old ≤ stock.new + result }
     {
         let fuel = plan.fuel();
         let thread = self.threads.get(place);
@@ -106,18 +122,20 @@ impl TileState {
             can_send: self.pending.is_free(place),
         };
         self.threads
-            .run_alone(place, plan.code(), &sight, most.min(left))
+            .run_alone(place, plan.code(), &sight, stock, most.min(left))
     }
 
     /// One step of the thread at a place.
     #[inline(always)]
-    fn step(&mut self, plan: &Plan, place: u32)
+    fn step(&mut self, plan: &Plan, place: u32, stock: &mut PageStock)
         requires there { place < tile_threads plan.now.shape }
         requires fits { IsFit plan.now self.old }
         requires can { IsTrue (can_step plan.now.shape.fuel place self.old) }
         requires counts { self.old.dropped < 2 ^ 63 + 2 ^ 16 }
+        requires page { 0 < stock.old }
         ensures row { self.new ≡ stepped plan.now.code place self.old }
         ensures count { self.new.dropped ≤ self.old.dropped + 512 }
+        ensures stock { stock.old ≤ stock.new + 1 }
     {
         let sight = TileSight {
             pool: &self.pool,
@@ -127,7 +145,7 @@ impl TileState {
         let threads = &mut self.threads;
         let thread = &mut threads.items[place as usize];
         let number = thread.sends();
-        match advance(plan.code(), thread, &sight) {
+        match advance(plan.code(), thread, &sight, stock) {
             Op::None | Op::Idle(_) => {}
             Op::Send(dest, bytes) => {
                 let packet = Packet {

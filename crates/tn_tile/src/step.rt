@@ -13,6 +13,7 @@ use crate::tile::Tile;
 use std::alloc::AllocError;
 use tn_base::ids::ThreadId;
 use tn_base::op::Op;
+use tn_pages::stock::PageStock;
 
 /// What came of a turn.
 #[derive(Clone, Copy, PartialEq, Eq, Debug)]
@@ -25,15 +26,17 @@ pub enum Turned {
 
 impl Tile {
     /// The longest turn of a thread: as many steps as it can make, up to the machine's number of steps.
-    pub fn turn(&mut self, t: ThreadId) -> Turned
-        requires { IsTrue (is_here self.old.plan t.0) }
+    /// The thread takes the pages that it writes first from a stock.
+    pub fn turn(&mut self, t: ThreadId, stock: &mut PageStock) -> Turned
+        requires here { IsTrue (is_here self.old.plan t.0) }
+        requires pages { self.old.plan.shape.turn ≤ stock.old }
         ensures { TurnIs result t.0 self.old self.new }
     {
         if !self.counts() {
             return Turned::Nothing;
         }
         let most = self.plan.turn();
-        match self.turn_up_to(t, most) {
+        match self.turn_up_to(t, most, stock) {
             0 => Turned::Nothing,
             made => Turned::Moved(made),
         }
@@ -49,15 +52,16 @@ impl Tile {
     }
 
     /// Makes as many of `most` steps of a thread as it can, and says how many.
-    pub fn turn_up_to(&mut self, t: ThreadId, most: u32) -> u32
+    pub fn turn_up_to(&mut self, t: ThreadId, most: u32, stock: &mut PageStock) -> u32
         requires here { IsTrue (is_here self.old.plan t.0) }
         requires few { most ≤ 64 }
+        requires pages { most ≤ stock.old }
         requires counts { IsTrue (can_count self.old.now) }
         ensures steps { StepsUpTo self.old.plan (place_in_tile self.old.plan.shape t.0) most result self.old.now self.new.now }
         ensures plan { self.new.plan ≡ self.old.plan }
     {
         let place = self.plan.place(t);
-        let made = self.state.turn(&self.plan, place, most);
+        let made = self.state.turn(&self.plan, place, stock, most);
         let fuel = self.plan.fuel();
         let can = self.state.can_go_on(fuel, place, made, most);
         self.ready = write_bit(self.ready, place, can);
@@ -71,6 +75,7 @@ impl Tile {
         requires can { IsTrue (can_step self.now.plan.shape.fuel (place_in_tile self.now.plan.shape t.0) self.now.now) }
         ensures { IfOk result (λ op. op ≡ (step_at_place self.now.plan.code (place_in_tile self.now.plan.shape t.0) self.now.now).op) }
     {
+        let mut stock = self.state.threads.page()?;
         let place = self.plan.place(t);
         let sight = TileSight {
             pool: &self.state.pool,
@@ -78,7 +83,7 @@ impl Tile {
             can_send: self.state.pending.is_free(place),
         };
         let mut thread = self.state.threads.get(place).copy()?;
-        Ok(advance(self.plan.code(), &mut thread, &sight))
+        Ok(advance(self.plan.code(), &mut thread, &sight, &mut stock))
     }
 
     /// Whether the thread at a place can make a step.

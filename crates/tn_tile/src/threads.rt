@@ -10,6 +10,7 @@ use crate::alone::run_code;
 use rv_isa::instr::Instr;
 use std::alloc::AllocError;
 use std::marker::Model;
+use tn_pages::stock::PageStock;
 use tn_thread::state::ThreadState;
 use tn_thread::thread::Thread;
 use tn_thread::view::View;
@@ -69,15 +70,27 @@ impl Threads {
         at: u32,
         code: &[Option<Instr>],
         sight: &V,
+        stock: &mut PageStock,
         most: u32,
     ) -> u32
         requires there { at < length self.old }
         requires fuel { (slice_index_or self.old at no_thread).steps + most < 2 ^ 32 }
+        requires pages { most ≤ stock.old }
         ensures steps { RanAlone at result code.now (V.sight sight.now) self.old self.new }
         ensures few { result ≤ most }
+        ensures stock { stock.old ≤ stock.new + result }
     {
         let thread = &mut self.items[at as usize];
-        run_code(code, thread, sight, most)
+        run_code(code, thread, sight, stock, most)
+    }
+
+    /// A stock of one page.
+    pub(crate) fn page(&self) -> Result<PageStock, AllocError>
+        ensures { IfOk result (λ stock. stock ≡ 1) }
+    {
+        let mut stock = PageStock::of(self.items.allocator().clone()?);
+        stock.reserve(1)?;
+        Ok(stock)
     }
 
     /// Gives each idle thread its answer.

@@ -12,6 +12,7 @@ loop-made-init c =
     record {
       few = c.run_alone-made.ensures.few;
       steps = c.run_alone-made.ensures.steps;
+      pages = let used = c.run_alone-made.ensures.stock in let had = c.requires.pages in omega arith;
       fits = steps_fit c.run_alone-made.result c.args.plan.now c.args.place c.args.self.now c.run_alone-made.new.self c.requires.there c.run_alone-made.ensures.steps c.requires.fits;
       counts = omega arith;
     }
@@ -37,6 +38,7 @@ loop-made-preserved c =
     record {
       few = omega arith;
       steps = steps_join (c.loop-made.made + 1) c.run_alone-made-in-loop-made.result p k c.args.self.now c.step.new.self c.run_alone-made-in-loop-made.new.self one c.run_alone-made-in-loop-made.ensures.steps;
+      pages = let used = c.run_alone-made-in-loop-made.ensures.stock in let one = c.step.ensures.stock in let had = c.loop-made.invariant.pages in omega arith;
       fits = steps_fit c.run_alone-made-in-loop-made.result p k c.step.new.self c.run_alone-made-in-loop-made.new.self c.requires.there c.run_alone-made-in-loop-made.ensures.steps fits;
       counts = omega arith;
     }

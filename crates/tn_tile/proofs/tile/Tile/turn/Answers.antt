@@ -24,6 +24,6 @@ returns-in_default c =
     let made : StepsUpTo v.plan (place_in_tile v.plan.shape a) v.plan.shape.turn n v.now w.now = rw most at c.turn_up_to.ensures.steps in
     let counts : can_count v.now ≡ true = search rules in
     let low : 1 ≤ n = search rules in (
-      now_is v w (turn_row v.plan a n v.now) c.turn_up_to.ensures.plan (turn_is v.plan a n v.now w.now c.requires counts low made.few made.steps),
+      now_is v w (turn_row v.plan a n v.now) c.turn_up_to.ensures.plan (turn_is v.plan a n v.now w.now c.requires.here counts low made.few made.steps),
       λ m h. turn_past v.plan a n m v.now w.now made h,
     )
