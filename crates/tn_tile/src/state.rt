@@ -82,7 +82,8 @@ impl TileState {
         requires few { most ≤ 64 }
         requires pages { most ≤ stock.old }
         requires counts { self.old.dropped < 2 ^ 63 }
-        ensures { StepsUpTo plan.now place most result self.old self.new }
+        ensures steps { StepsUpTo plan.now place most result self.old self.new }
+        ensures stock { stock.old ≤ stock.new + result }
     {
         let fuel = plan.fuel();
         let mut made = self.run_alone(plan, place, stock, most);

@@ -1,10 +1,10 @@
 //! Steps and turns of threads.
 
-ghost use Rattle.std.specs.Prelude.{◌≡◌, ◌≤◌, ◌<◌, IfOk, IsTrue, is_some};
+ghost use Rattle.std.specs.Prelude.{◌≡◌, ◌≤◌, ◌<◌, ◌+◌, IfOk, IsTrue, is_some};
 ghost use Rattle.tn_base.specs.Address.{place_in_tile, tile_threads};
 ghost use Rattle.tn_tile.specs.Rows.{can_count, is_here, turn_row};
 ghost use Rattle.tn_tile.specs.Step.{can_step, step_at_place};
-ghost use Rattle.tn_tile.specs.Turns.{StepsUpTo, TurnIs};
+ghost use Rattle.tn_tile.specs.Turns.{StepsUpTo, StockLasts, TurnIs};
 
 use crate::advance::advance;
 use crate::bits::{has_bit, with_if, write_bit};
@@ -29,8 +29,9 @@ impl Tile {
     /// The thread takes the pages that it writes first from a stock.
     pub fn turn(&mut self, t: ThreadId, stock: &mut PageStock) -> Turned
         requires here { IsTrue (is_here self.old.plan t.0) }
-        requires pages { self.old.plan.shape.turn ≤ stock.old }
-        ensures { TurnIs result t.0 self.old self.new }
+        requires pages { 64 ≤ stock.old }
+        ensures turn { TurnIs result t.0 self.old self.new }
+        ensures stock { StockLasts result stock.old stock.new }
     {
         if !self.counts() {
             return Turned::Nothing;
@@ -59,6 +60,7 @@ impl Tile {
         requires counts { IsTrue (can_count self.old.now) }
         ensures steps { StepsUpTo self.old.plan (place_in_tile self.old.plan.shape t.0) most result self.old.now self.new.now }
         ensures plan { self.new.plan ≡ self.old.plan }
+        ensures stock { stock.old ≤ stock.new + result }
     {
         let place = self.plan.place(t);
         let made = self.state.turn(&self.plan, place, stock, most);
@@ -69,13 +71,21 @@ impl Tile {
         made
     }
 
+    /// A stock of so many pages for turns of the tile's threads.
+    pub fn stock(&self, pages: u32) -> Result<PageStock, AllocError>
+        requires { pages ≤ 64 }
+        ensures { IfOk result (λ stock. stock ≡ pages) }
+    {
+        self.state.threads.stock(pages)
+    }
+
     /// What the next step of a thread asks of the tile. It is found on a copy of the thread.
     pub fn asks(&self, t: ThreadId) -> Result<Op, AllocError>
         requires here { IsTrue (is_here self.now.plan t.0) }
         requires can { IsTrue (can_step self.now.plan.shape.fuel (place_in_tile self.now.plan.shape t.0) self.now.now) }
         ensures { IfOk result (λ op. op ≡ (step_at_place self.now.plan.code (place_in_tile self.now.plan.shape t.0) self.now.now).op) }
     {
-        let mut stock = self.state.threads.page()?;
+        let mut stock = self.stock(1)?;
         let place = self.plan.place(t);
         let sight = TileSight {
             pool: &self.state.pool,

@@ -84,12 +84,13 @@ impl Threads {
         run_code(code, thread, sight, stock, most)
     }
 
-    /// A stock of one page.
-    pub(crate) fn page(&self) -> Result<PageStock, AllocError>
-        ensures { IfOk result (λ stock. stock ≡ 1) }
+    /// A stock of so many pages.
+    pub(crate) fn stock(&self, pages: u32) -> Result<PageStock, AllocError>
+        requires { pages ≤ 64 }
+        ensures { IfOk result (λ stock. stock ≡ pages) }
     {
         let mut stock = PageStock::of(self.items.allocator().clone()?);
-        stock.reserve(1)?;
+        stock.reserve(pages)?;
         Ok(stock)
     }
 
