@@ -2,8 +2,8 @@
 
 ghost use Rattle.std.specs.Prelude.{◌≡◌, ◌≤◌, ◌<◌, ◌+◌, ◌-◌, ◌/◌, ◌%◌, ◌↔◌, [], false, true, count_by, if◌then◌else◌, IfOk, IsTrue, length, slice_index, slice_index_or, slice_set};
 ghost use Rattle.tn_base.specs.Effects.{is_width};
-ghost use Rattle.tn_pages.specs.Numbers.{value_at, written};
-ghost use Rattle.tn_pages.specs.Paged.{Paged, started};
+ghost use Rattle.tn_pages.specs.Numbers.{value_at};
+ghost use Rattle.tn_pages.specs.Paged.{Paged, pages_made, started, stored_in};
 ghost use Rattle.tn_pages.specs.Pages.{is_made};
 
 use crate::page::{PAGE, Page};
@@ -68,7 +68,7 @@ impl PagedMemory {
 
     /// How many pages are made.
     pub fn written(&self) -> u32
-        ensures { result ≡ count_by (λ made. made) self.now.made }
+        ensures { result ≡ pages_made self.now }
     {
         count_made(&self.pages) as u32
     }
@@ -100,7 +100,7 @@ impl PagedMemory {
         requires within { at + width ≤ length self.old.bytes }
         requires one_page { at % 256 + width ≤ 256 }
         requires stock { 0 < stock.old }
-        ensures memory { self.new ≡ record { bytes = written self.old.bytes at width value; made = slice_set self.old.made (at / 256) true } }
+        ensures memory { self.new ≡ stored_in self.old at width value }
         ensures stock { stock.new ≡ (if slice_index_or self.old.made (at / 256) false then stock.old else stock.old - 1) }
     {
         let len = (self.size - PAGE * (at / PAGE)).min(PAGE);

@@ -1,5 +1,6 @@
 -- What each step keeps of its thread, and when it asks for what.
 use Rattle.std.specs.Prelude.{◌≡◌, ◌≤◌, ◌+◌, IsTrue, length, is_some}
+use Rattle.tn_pages.specs.Paged.{pages_made}
 use Rattle.tn_base.specs.Message.{has_dest}
 use Rattle.tn_base.specs.declared.op.Op.{Op}
 use Rattle.tn_base.specs.declared.op.Op.TheVariants as op
@@ -13,7 +14,7 @@ pub record Keeps (old new : Thread) : Type 0 where
   pub id : new.id ≡ old.id
   pub shape : new.shape ≡ old.shape
   pub firmware : new.firmware ≡ old.firmware
-  pub mem : length new.mem ≡ length old.mem
+  pub mem : length new.mem.bytes ≡ length old.mem.bytes
   pub out : slot_size new ≡ slot_size old
 
 -- a step asks for a send only where none is pending, to a destination of the machine, of bytes that fit a slot;
@@ -28,8 +29,9 @@ OpFits seen old new (op.Idle vote) = new.state ≡ state.Idle vote
 OpFits seen old new (op.Kill value) = new.state ≡ state.Dead value
 OpFits seen old new (op.Trap why) = new.state ≡ state.Trapped why
 
--- a step counts one
+-- a step counts one, and makes at most one page
 pub record StepFits (seen : Sight) (old : Thread) (r : Stepped) : Type 0 where
   pub keeps : Keeps old r.thread
   pub steps : r.thread.steps ≡ old.steps + 1
+  pub pages : pages_made r.thread.mem ≤ pages_made old.mem + 1
   pub op : OpFits seen old r.thread r.op

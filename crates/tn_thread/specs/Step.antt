@@ -20,7 +20,9 @@ use Rattle.tn_thread.specs.declared.state.ThreadState.{ThreadState}
 use Rattle.tn_thread.specs.declared.state.ThreadState.TheVariants as state
 use Rattle.tn_thread.specs.declared.thread.Thread.{Thread}
 use Rattle.tn_base.specs.Effects.{is_width}
-use Rattle.tn_thread.specs.Memory.{value_at, written, extended}
+use Rattle.tn_pages.specs.Numbers.{value_at, written}
+use Rattle.tn_pages.specs.Paged.{started as memory_of, stored_in}
+use Rattle.tn_thread.specs.Memory.{extended}
 use Rattle.tn_thread.specs.Registers.{is_open, may_write, register_of}
 use Rattle.tn_thread.specs.Sight.{Sight}
 
@@ -75,14 +77,14 @@ is_received addr t = nat_le 0x40000000 addr && nat_lt (slot_at addr t) 65536
 abbrev pub place_of : ℕ → ℕ → Thread → Place
 place_of addr width t =
     if not (addr % width == 0) then place.Misaligned
-    else if nat_le (addr + width) (length t.mem) then place.Private addr
+    else if nat_le (addr + width) (length t.mem.bytes) then place.Private addr
     else if nat_le 0x50000000 addr && nat_le (addr - 0x50000000 + width) (slot_size t) then place.SendSlot (addr - 0x50000000)
     else if is_received addr t then place.Received (slot_at addr t) ((addr - 0x40000000) % slot_size t)
     else place.Nowhere
 
--- a place lies within the memory that it is in
+-- a place lies within the memory that it is in, and one in private memory lies on one page
 abbrev pub IsWithin : ℕ → Thread → Place → Type 0
-IsWithin width t (place.Private at) = at + width ≤ length t.mem
+IsWithin width t (place.Private at) = (at + width ≤ length t.mem.bytes) × (at % 256 + width ≤ 256)
 IsWithin width t (place.SendSlot at) = at + width ≤ slot_size t
 IsWithin width t (place.Received slot at) = (slot < 65536) × (at < slot_size t)
 IsWithin width t place.Misaligned = Unit {0}
@@ -94,7 +96,7 @@ loaded_message None rd width signed at t = trapped trap.BadAddress t
 loaded_message (Some message) rd width signed at t = got rd (extended width signed (value_at message at width)) op.None t
 
 abbrev pub loaded_from : Place → ℕ → ℕ → Bool → Sight → Thread → Stepped
-loaded_from (place.Private at) rd width signed seen t = got rd (extended width signed (value_at t.mem at width)) op.None t
+loaded_from (place.Private at) rd width signed seen t = got rd (extended width signed (value_at t.mem.bytes at width)) op.None t
 loaded_from (place.SendSlot at) rd width signed seen t = got rd (extended width signed (value_at t.out.bytes at width)) op.None t
 loaded_from (place.Received slot at) rd width signed seen t = loaded_message (seen.held slot) rd width signed at t
 loaded_from place.Misaligned rd width signed seen t = trapped trap.Misaligned t
@@ -105,7 +107,7 @@ abbrev pub loaded : ℕ → ℕ → ℕ → Bool → Sight → Thread → Steppe
 loaded rd addr width signed seen t = loaded_from (place_of addr width t) rd width signed seen t
 
 abbrev pub stored_to : Place → ℕ → ℕ → Thread → Stepped
-stored_to (place.Private at) width value t = went (record t { mem = written t.mem at width value }) op.None
+stored_to (place.Private at) width value t = went (record t { mem = stored_in t.mem at width value }) op.None
 stored_to (place.SendSlot at) width value t = went (record t { out = record t.out { bytes = written t.out.bytes at width value } }) op.None
 stored_to (place.Received slot at) width value t = trapped trap.BadAddress t
 stored_to place.Misaligned width value t = trapped trap.Misaligned t
@@ -293,6 +295,6 @@ started shape id image firmware = record {
   dest = 0;
   mask_low = 0;
   mask_high = 0;
-  mem = image ++ replicate (shape.mem - length image) 0;
+  mem = memory_of shape.mem image;
   out = record { bytes = replicate (slot_bytes shape) 0; last = first_last firmware };
 }

@@ -2,7 +2,7 @@
 
 ghost use Rattle.std.specs.Prelude.{◌≡◌, ◌<◌, ◌+◌, ◌^◌, IsTrue};
 ghost use Rattle.tn_base.specs.Effects.{is_width};
-ghost use Rattle.tn_thread.specs.Alone.{Goes, alone, caught_up, reads_from, writes_to};
+ghost use Rattle.tn_thread.specs.Alone.{Goes, StockGoes, alone, caught_up, reads_from, writes_to};
 ghost use Rattle.tn_thread.specs.Step.{FitsStep, place_of};
 
 use crate::place::Place;
@@ -10,15 +10,24 @@ use crate::step::{extend, message_value};
 use crate::thread::Thread;
 use crate::view::View;
 use tn_base::effect::Effect;
+use tn_pages::stock::PageStock;
 
 impl Thread {
     /// A step of a thread that runs, from `pc` and with this effect, where it asks nothing of the tile. It says where
     /// the thread goes on. The thread's own pc and counts stay as they are: `catch_up` writes them behind the last
     /// of several such steps.
     #[inline(always)]
-    pub fn go_alone<V: View>(&mut self, effect: Effect, view: &V, pc: u32) -> Option<u32>
-        requires { FitsStep effect }
-        ensures { Goes result (alone effect (V.sight view.now) pc self.old) self.old self.new }
+    pub fn go_alone<V: View>(
+        &mut self,
+        effect: Effect,
+        view: &V,
+        stock: &mut PageStock,
+        pc: u32,
+    ) -> Option<u32>
+        requires fits { FitsStep effect }
+        requires page { 0 < stock.old }
+        ensures step { Goes result (alone effect (V.sight view.now) pc self.old) self.old self.new }
+        ensures stock { StockGoes result stock.old stock.new }
     {
         match effect {
             Effect::Next => Some(pc.wrapping_add(4)),
@@ -29,7 +38,7 @@ impl Thread {
                 width,
                 signed,
             } => self.read_alone(rd, addr, width, signed, view, pc),
-            Effect::Store { addr, width, value } => self.write_alone(addr, width, value, pc),
+            Effect::Store { addr, width, value } => self.write_alone(addr, width, value, stock, pc),
             Effect::CsrRead { .. } | Effect::CsrWrite { .. } | Effect::Trap(_) => None,
         }
     }
@@ -74,12 +83,21 @@ impl Thread {
 
     /// A store that does not trap.
     #[inline(always)]
-    fn write_alone(&mut self, addr: u32, width: u8, value: u32, pc: u32) -> Option<u32>
-        requires { IsTrue (is_width width) }
-        ensures { Goes result (writes_to (place_of addr width self.old) width value pc self.old) self.old self.new }
+    fn write_alone(
+        &mut self,
+        addr: u32,
+        width: u8,
+        value: u32,
+        stock: &mut PageStock,
+        pc: u32,
+    ) -> Option<u32>
+        requires width { IsTrue (is_width width) }
+        requires page { 0 < stock.old }
+        ensures step { Goes result (writes_to (place_of addr width self.old) width value pc self.old) self.old self.new }
+        ensures stock { StockGoes result stock.old stock.new }
     {
         match self.place(addr, width) {
-            Place::Private(at) => self.mem.write(at as usize, width, value),
+            Place::Private(at) => self.mem.write(stock, at as usize, width, value),
             Place::SendSlot(at) => self.out.write(at as usize, width, value),
             Place::Received(_, _) | Place::Misaligned | Place::Nowhere => return None,
         }

@@ -7,9 +7,9 @@
 pub mod alone;
 pub mod ask;
 pub mod command;
-pub mod memory;
 pub mod place;
 pub mod register;
+pub mod send_slot;
 pub mod state;
 pub mod step;
 pub mod thread;

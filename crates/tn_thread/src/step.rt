@@ -5,12 +5,12 @@ ghost use Rattle.tn_base.specs.declared.op.Op.TheVariants as op;
 ghost use Rattle.tn_thread.specs.Asks.{asks, op_of};
 ghost use Rattle.tn_thread.specs.Fits.{StepFits};
 ghost use Rattle.tn_base.specs.Effects.{is_width};
-ghost use Rattle.tn_thread.specs.Memory.{extended, sign_filled, value_at};
+ghost use Rattle.tn_pages.specs.Numbers.{value_at};
+ghost use Rattle.tn_thread.specs.Memory.{extended, sign_filled};
 ghost use Rattle.tn_thread.specs.Registers.{register_of};
 ghost use Rattle.tn_thread.specs.Step.{FitsStep, IsWithin, Stepped, answered, completed, dest_of, freed, got, is_idle, loaded, place_of, read_by, resumed, runnable, sent, stepped, stored, trapped, went, went_to, write_by, write_row};
 
 use crate::ask::Ask;
-use crate::memory::value_at as bytes_value;
 use crate::place::Place;
 use crate::register::Register;
 use crate::state::{Target, ThreadState, WaitSet};
@@ -23,6 +23,8 @@ use tn_base::ids::{ThreadId, TileId};
 use tn_base::mask::Mask;
 use tn_base::message::{Dest, HOST};
 use tn_base::op::Op;
+use tn_pages::numbers::read_at;
+use tn_pages::stock::PageStock;
 
 /// The address of the first message slot.
 const RECEIVED: u32 = 0x4000_0000;
@@ -45,29 +47,39 @@ impl Thread {
     }
 
     /// One step of a thread that runs, whose instruction has this effect. It traps where the address, the
-    /// control register or the destination that it names is not there, and counts all the same.
+    /// control register or the destination that it names is not there, and counts all the same. If it writes to a page that
+    /// is not made, it takes a page of the stock.
     #[inline(always)]
-    pub fn apply<V: View>(&mut self, effect: Effect, view: &V) -> Op
+    pub fn apply<V: View>(&mut self, effect: Effect, view: &V, stock: &mut PageStock) -> Op
         requires running { self.old.state ≡ ThreadState.Run }
         requires fuel { self.old.steps < self.old.shape.fuel }
         requires fits { FitsStep effect }
+        requires page { 0 < stock.old }
         ensures step { record { thread = self.new; op = result } ≡ stepped effect (V.sight view.now) self.old }
         ensures fits { StepFits (V.sight view.now) self.old (record { thread = self.new; op = result }) }
+        ensures stock { stock.old ≤ stock.new + 1 }
     {
-        let ask = self.apply_asking(effect, view);
+        let ask = self.apply_asking(effect, view, stock);
         self.op_of(ask)
     }
 
     /// The same step, which hands on what the thread asks without the message of a send: `message` reads the message.
     #[inline(always)]
-    pub fn apply_asking<V: View>(&mut self, effect: Effect, view: &V) -> Ask
+    pub fn apply_asking<V: View>(
+        &mut self,
+        effect: Effect,
+        view: &V,
+        stock: &mut PageStock,
+    ) -> Ask
         requires running { self.old.state ≡ ThreadState.Run }
         requires fuel { self.old.steps < self.old.shape.fuel }
         requires fits { FitsStep effect }
+        requires page { 0 < stock.old }
         ensures step { asks result self.new ≡ stepped effect (V.sight view.now) self.old }
         ensures fits { StepFits (V.sight view.now) self.old (asks result self.new) }
+        ensures stock { stock.old ≤ stock.new + 1 }
     {
-        self.act(effect, view)
+        self.act(effect, view, stock)
     }
 
     /// The completion of a wait or an idle: an idle reads its answer into its register.
@@ -112,10 +124,12 @@ impl Thread {
 
     /// The effect of an instruction.
     #[inline(always)]
-    fn act<V: View>(&mut self, effect: Effect, view: &V) -> Ask
+    fn act<V: View>(&mut self, effect: Effect, view: &V, stock: &mut PageStock) -> Ask
         requires fuel { self.old.steps < self.old.shape.fuel }
         requires fits { FitsStep effect }
-        ensures { asks result self.new ≡ stepped effect (V.sight view.now) self.old }
+        requires page { 0 < stock.old }
+        ensures step { asks result self.new ≡ stepped effect (V.sight view.now) self.old }
+        ensures stock { stock.old ≤ stock.new + 1 }
     {
         let _limits = self.shape.numbers();
         match effect {
@@ -133,7 +147,7 @@ impl Thread {
                 width,
                 signed,
             } => self.load(rd, addr, width, signed, view),
-            Effect::Store { addr, width, value } => self.store(addr, width, value),
+            Effect::Store { addr, width, value } => self.store(addr, width, value, stock),
             Effect::CsrRead { rd, csr } => self.read(rd, csr, view),
             Effect::CsrWrite { rd, csr, value } => self.write(rd, csr, value, view),
             Effect::Trap(trap) => self.trap(trap),
@@ -287,14 +301,16 @@ impl Thread {
 
     /// A store of a byte, a halfword or a word.
     #[inline(always)]
-    fn store(&mut self, addr: u32, width: u8, value: u32) -> Ask
+    fn store(&mut self, addr: u32, width: u8, value: u32, stock: &mut PageStock) -> Ask
         requires room { self.old.steps + 1 < 2 ^ 32 }
         requires width { IsTrue (is_width width) }
-        ensures { asks result self.new ≡ stored addr width value self.old }
+        requires page { 0 < stock.old }
+        ensures step { asks result self.new ≡ stored addr width value self.old }
+        ensures stock { stock.old ≤ stock.new + 1 }
     {
         match self.place(addr, width) {
             Place::Private(at) => {
-                self.mem.write(at as usize, width, value);
+                self.mem.write(stock, at as usize, width, value);
                 self.go_on();
                 Ask::None
             }
@@ -515,7 +531,7 @@ pub(crate) fn message_value(message: &Bytes, at: usize, width: u8) -> u32
 {
     let bytes = message.as_slice();
     if at + usize::from(width) <= bytes.len() {
-        return bytes_value(bytes, at, width);
+        return read_at(bytes, at, width);
     }
     past_value(message, at, width)
 }

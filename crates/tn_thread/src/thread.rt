@@ -2,15 +2,17 @@
 
 ghost use Rattle.std.specs.Prelude.{◌≡◌, ◌≤◌, ◌<◌, ◌↔◌, IfOk, IsTrue, MatchOption, ⊤, length, slice_index};
 ghost use Rattle.tn_base.specs.Message.{flits};
+ghost use Rattle.tn_pages.specs.Paged.{pages_made};
 ghost use Rattle.tn_thread.specs.Same.{SameCounts, SameName, SameParts, SameSending};
 ghost use Rattle.tn_thread.specs.Step.{given_by, started};
 
-use crate::memory::{Memory, SendSlot};
+use crate::send_slot::SendSlot;
 use crate::state::{Target, ThreadState};
 use std::alloc::{AllocError, Global};
 use tn_base::ids::ThreadId;
 use tn_base::regs::Regs;
 use tn_base::shape::Shape;
+use tn_pages::memory::PagedMemory;
 
 /// The address of the firmware in a graph job.
 pub const FIRMWARE: u32 = 0xFFFF_FFF0;
@@ -32,7 +34,7 @@ pub struct Thread {
     pub(crate) dest: u32,
     pub(crate) mask_low: u32,
     pub(crate) mask_high: u32,
-    pub(crate) mem: Memory,
+    pub(crate) mem: PagedMemory,
     pub(crate) out: SendSlot,
 }
 
@@ -50,7 +52,7 @@ impl Thread {
         requires firmware { MatchOption firmware ⊤ (λ f. (1 ≤ f) × (f ≤ flits shape.now)) }
         ensures { IfOk result (λ t. t ≡ started shape.now id image.now firmware) }
     {
-        let mem = Memory::new(alloc, shape.numbers().mem, image)?;
+        let mem = PagedMemory::new(alloc, shape.numbers().mem, image)?;
         let (pc, last) = match firmware {
             Some(flits) => (FIRMWARE, flits - 1),
             None => (0, 0),
@@ -125,10 +127,17 @@ impl Thread {
 
     /// A byte of private memory.
     pub fn byte(&self, addr: u32) -> u8
-        requires { addr < length self.now.mem }
-        ensures { result ≡ slice_index self.now.mem addr }
+        requires { addr < length self.now.mem.bytes }
+        ensures { result ≡ slice_index self.now.mem.bytes addr }
     {
         self.mem.byte(addr as usize)
+    }
+
+    /// How many pages of private memory are made.
+    pub fn written(&self) -> u32
+        ensures { result ≡ pages_made self.now.mem }
+    {
+        self.mem.written()
     }
 
     /// The same thread.

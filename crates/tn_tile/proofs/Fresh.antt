@@ -24,7 +24,7 @@ start_is n a t s =
     record {
       id = ap (λ (x : Thread). x.id) s.start;
       shape = ap (λ (x : Thread). x.shape) s.start;
-      mem = ap (λ (x : Thread). length x.mem) s.start ∙ length-append s.image (replicate (n.mem - length s.image) 0) ∙ ap (λ k. length s.image + k) zeros ∙ size;
+      mem = ap (λ (x : Thread). length x.mem.bytes) s.start ∙ length-append s.image (replicate (n.mem - length s.image) 0) ∙ ap (λ k. length s.image + k) zeros ∙ size;
       out = ap slot_size s.start ∙ length-replicate (slot_bytes n) 0;
       steps = let none : t.steps ≡ 0 = ap (λ (x : Thread). x.steps) s.start in omega arith;
     }

@@ -39,7 +39,7 @@ op_fits seen t new regs (op.Trap why) f = f
 wrote_fits : (seen : Sight) (t : Thread) (regs : List ℕ) (r : Stepped) → StepFits seen (record t { regs = regs }) r → StepFits seen t r
 wrote_fits seen t regs r f =
     let k = f.keeps in
-    record { keeps = record { id = k.id; shape = k.shape; firmware = k.firmware; mem = k.mem; out = k.out }; steps = f.steps; op = op_fits seen t r.thread regs r.op f.op }
+    record { keeps = record { id = k.id; shape = k.shape; firmware = k.firmware; mem = k.mem; out = k.out }; steps = f.steps; pages = f.pages; op = op_fits seen t r.thread regs r.op f.op }
 
 runs_fits : (seen : Sight) (t : Thread) (e : Effect) → t.state ≡ state.Run → StepFits seen t (turned e seen t)
 runs_fits seen t e run = subst (StepFits seen t) (sym (turned_runs t.state e seen t run)) (stepped_fits e seen t)

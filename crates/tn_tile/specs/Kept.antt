@@ -22,7 +22,7 @@ use Rattle.tn_tile.specs.TileView.{TilePlan, TileState, TileView}
 pub record IsThread (n : ShapeNumbers) (a : ℕ) (t : Thread) : Type 0 where
   pub id : t.id ≡ record { 0 = a }
   pub shape : t.shape ≡ n
-  pub mem : length t.mem ≡ n.mem
+  pub mem : length t.mem.bytes ≡ n.mem
   pub out : slot_size t ≡ slot_bytes n
   pub steps : t.steps ≤ n.fuel
 

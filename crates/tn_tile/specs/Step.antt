@@ -65,7 +65,7 @@ no_thread = record {
   dest = 0;
   mask_low = 0;
   mask_high = 0;
-  mem = [];
+  mem = record { bytes = []; made = [] };
   out = record { bytes = []; last = 0 };
 }
 

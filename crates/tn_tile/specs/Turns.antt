@@ -1,5 +1,5 @@
 -- What turns answer.
-use Rattle.std.specs.Prelude.{ℕ, ◌≡◌, ◌<◌, ◌≤◌, Bool, true, false, IsSome, Some, None}
+use Rattle.std.specs.Prelude.{ℕ, ◌≡◌, ◌<◌, ◌≤◌, ◌+◌, Bool, true, false, IsSome, Some, None}
 use Rattle.tn_tile.specs.declared.deliver.Did.{Did}
 use Rattle.tn_tile.specs.declared.deliver.Did.TheVariants as did
 use Rattle.tn_tile.specs.declared.step.Turned.{Turned}
@@ -12,6 +12,11 @@ use Rattle.tn_tile.specs.TileView.{TilePlan, TileState, TileView, now_by}
 abbrev pub TurnIs : Turned → ℕ → TileView → TileView → Type 0
 TurnIs (turned.Moved n) a old new = (now_by old (turn_row old.plan a n old.now) ≡ Some new) × ((m : ℕ) → n < m → turn_row old.plan a m old.now ≡ None)
 TurnIs turned.Nothing a old new = (new ≡ old) × ((m : ℕ) → turn_row old.plan a m old.now ≡ None)
+
+-- a turn takes at most one page of a stock for each step
+abbrev pub StockLasts : Turned → ℕ → ℕ → Type 0
+StockLasts (turned.Moved n) old new = old ≤ new + n
+StockLasts turned.Nothing old new = old ≤ new
 
 -- if a turn of n steps is possible, so is each shorter turn
 abbrev pub HasShorter : TileView → ℕ → Type 0

@@ -1,6 +1,6 @@
 //! One step of a thread over a code.
 
-ghost use Rattle.std.specs.Prelude.{◌≡◌, ◌≢◌, ◌<◌, ◌/◌, IsTrue, slice_get};
+ghost use Rattle.std.specs.Prelude.{◌≡◌, ◌≢◌, ◌≤◌, ◌<◌, ◌+◌, ◌/◌, IsTrue, slice_get};
 ghost use Rattle.tn_base.specs.declared.op.Op.TheVariants as op;
 ghost use Rattle.tn_thread.specs.Asks.{asks};
 ghost use Rattle.tn_thread.specs.Fits.{StepFits};
@@ -13,6 +13,7 @@ use rv_isa::instr::Instr;
 use tn_base::effect::Effect;
 use tn_base::event::Trap;
 use tn_base::op::Op;
+use tn_pages::stock::PageStock;
 use tn_thread::ask::Ask;
 use tn_thread::state::ThreadState;
 use tn_thread::thread::Thread;
@@ -20,16 +21,22 @@ use tn_thread::view::View;
 
 /// A thread's own part of a step, and what it asks of its tile.
 #[inline(always)]
-pub(crate) fn advance<V: View>(code: &[Option<Instr>], thread: &mut Thread, sight: &V) -> Op
+pub(crate) fn advance<V: View>(
+    code: &[Option<Instr>],
+    thread: &mut Thread,
+    sight: &V,
+    stock: &mut PageStock,
+) -> Op
     requires runnable { IsTrue (runnable (V.sight sight.now) thread.old.state) }
     requires fuel { thread.old.steps < thread.old.shape.fuel }
+    requires page { 0 < stock.old }
     ensures step { record { thread = thread.new; op = result } ≡ next_step code.now (V.sight sight.now) thread.old }
     ensures fits { StepFits (V.sight sight.now) thread.old (record { thread = thread.new; op = result }) }
 {
     match thread.state() {
         ThreadState::Run => {
             let effect = fetch(code, thread);
-            thread.apply(effect, sight)
+            thread.apply(effect, sight, stock)
         }
         _ => thread.resume(sight),
     }
@@ -41,15 +48,18 @@ pub(crate) fn apply_next<V: View>(
     _code: &[Option<Instr>],
     thread: &mut Thread,
     sight: &V,
+    stock: &mut PageStock,
     effect: Effect,
 ) -> Ask
     requires running { thread.old.state ≡ ThreadState.Run }
     requires fuel { thread.old.steps < thread.old.shape.fuel }
     requires next { NextIs _code.now effect thread.old }
+    requires page { 0 < stock.old }
     ensures step { asks result thread.new ≡ next_step _code.now (V.sight sight.now) thread.old }
     ensures fits { StepFits (V.sight sight.now) thread.old (asks result thread.new) }
+    ensures stock { stock.old ≤ stock.new + 1 }
 {
-    thread.apply_asking(effect, sight)
+    thread.apply_asking(effect, sight, stock)
 }
 
 /// The next step of a thread that waits or is idle: it asks nothing.

@@ -1,6 +1,6 @@
 //! Steps of a thread that ask nothing of its tile, in a loop of their own: most steps are such ones.
 
-ghost use Rattle.std.specs.Prelude.{◌≡◌, ◌<◌, ◌+◌, ◌/◌, ◌^◌, MatchResult, Some, slice_get};
+ghost use Rattle.std.specs.Prelude.{◌≡◌, ◌≤◌, ◌<◌, ◌+◌, ◌/◌, ◌^◌, MatchResult, Some, slice_get};
 ghost use Rattle.tn_thread.specs.Step.{FitsStep};
 ghost use Rattle.tn_tile.specs.Alone.{AsksAt, Fetches, Stops, alone_at, went_alone};
 
@@ -8,6 +8,7 @@ use rv_exec::exec::exec;
 use rv_isa::instr::Instr;
 use tn_base::effect::Effect;
 use tn_base::event::Trap;
+use tn_pages::stock::PageStock;
 use tn_thread::thread::Thread;
 use tn_thread::view::View;
 
@@ -18,16 +19,19 @@ pub(crate) fn run_code<V: View>(
     code: &[Option<Instr>],
     thread: &mut Thread,
     sight: &V,
+    stock: &mut PageStock,
     most: u32,
 ) -> (u32, Option<Effect>)
-    requires { thread.old.steps + most < 2 ^ 32 }
+    requires fuel { thread.old.steps + most < 2 ^ 32 }
+    requires pages { most ≤ stock.old }
     ensures steps { went_alone result.0 code.now (V.sight sight.now) thread.old ≡ Some thread.new }
     ensures next { Stops result.0 result.1 most code.now thread.new }
+    ensures stock { stock.old ≤ stock.new + result.0 }
 {
     let mut pc = thread.pc();
     let mut made = 0;
     while made < most {
-        match step_alone(code, pc, thread, sight) {
+        match step_alone(code, pc, thread, sight, stock) {
             Ok(next) => {
                 pc = next;
                 made += 1;
@@ -50,13 +54,16 @@ fn step_alone<V: View>(
     pc: u32,
     thread: &mut Thread,
     sight: &V,
+    stock: &mut PageStock,
 ) -> Result<u32, Effect>
-    ensures { MatchResult result
+    requires { 0 < stock.old }
+    ensures step { MatchResult result
         (λ next. alone_at (slice_get code.now (pc / 4)) (V.sight sight.now) pc thread.old ≡ Some (record { pc = next; thread = thread.new }))
         (λ effect. (AsksAt (slice_get code.now (pc / 4)) effect pc thread.old × (thread.new ≡ thread.old)) × FitsStep effect) }
+    ensures stock { MatchResult result (λ _. stock.old ≤ stock.new + 1) (λ _. stock.new ≡ stock.old) }
 {
     let effect = fetch_at(code, pc, thread);
-    match thread.go_alone(effect, sight, pc) {
+    match thread.go_alone(effect, sight, stock, pc) {
         Some(next) => Ok(next),
         None => Err(effect),
     }

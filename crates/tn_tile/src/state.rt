@@ -21,6 +21,7 @@ use tn_base::event::Trap;
 use tn_base::ids::ThreadId;
 use tn_base::message::{Dest, Packet};
 use tn_node::node::Node;
+use tn_pages::stock::PageStock;
 use tn_slots::pool::Pool;
 use tn_thread::ask::Ask;
 use tn_thread::state::ThreadState;
@@ -70,34 +71,50 @@ impl TileState {
         made == most && self.can_step(fuel, place)
     }
 
-    /// Makes as many of `most` steps of the thread at a place as it can, and says how many.
-    pub(crate) fn turn(&mut self, plan: &Plan, place: u32, most: u32) -> u32
+    /// Makes as many of `most` steps of the thread at a place as it can, and says how many. A step takes at most one page.
+    pub(crate) fn turn(
+        &mut self,
+        plan: &Plan,
+        place: u32,
+        stock: &mut PageStock,
+        most: u32,
+    ) -> u32
         requires there { place < tile_threads plan.now.shape }
         requires fits { IsFit plan.now self.old }
         requires few { most ≤ 64 }
+        requires pages { most ≤ stock.old }
         requires counts { self.old.dropped < 2 ^ 63 }
-        ensures { StepsUpTo plan.now place most result self.old self.new }
+        ensures steps { StepsUpTo plan.now place most result self.old self.new }
+        ensures stock { stock.old ≤ stock.new + result }
     {
         let fuel = plan.fuel();
         let mut made = 0;
         while made < most && self.can_step(fuel, place) {
-            made += self.advance(plan, place, most - made);
+            made += self.advance(plan, place, stock, most - made);
         }
         made
     }
 
     /// Makes at least one step of the thread at a place, at most this many, and says how many.
     #[inline(always)]
-    fn advance(&mut self, plan: &Plan, place: u32, most: u32) -> u32
+    fn advance(
+        &mut self,
+        plan: &Plan,
+        place: u32,
+        stock: &mut PageStock,
+        most: u32,
+    ) -> u32
         requires there { place < tile_threads plan.now.shape }
         requires fits { IsFit plan.now self.old }
         requires can { IsTrue (can_step plan.now.shape.fuel place self.old) }
         requires some { 0 < most }
+        requires pages { most ≤ stock.old }
         requires counts { self.old.dropped < 2 ^ 63 + 2 ^ 15 }
-        ensures { Advanced plan.now place most result self.old self.new }
+        ensures steps { Advanced plan.now place most result self.old self.new }
+        ensures stock { stock.old ≤ stock.new + result }
     {
         match self.threads.get(place).state() {
-            ThreadState::Run => self.run(plan, place, most),
+            ThreadState::Run => self.run(plan, place, stock, most),
             _ => {
                 self.wake(plan, place);
                 1
@@ -107,33 +124,43 @@ impl TileState {
 
     /// Makes steps of a thread that runs: those that ask nothing of the tile, and the step behind them.
     #[inline(always)]
-    fn run(&mut self, plan: &Plan, place: u32, most: u32) -> u32
+    fn run(&mut self, plan: &Plan, place: u32, stock: &mut PageStock, most: u32) -> u32
         requires there { place < tile_threads plan.now.shape }
         requires fits { IsFit plan.now self.old }
         requires can { IsTrue (can_step plan.now.shape.fuel place self.old) }
         requires runs { (thread_at self.old place).state ≡ ThreadState.Run }
         requires some { 0 < most }
+        requires pages { most ≤ stock.old }
         requires counts { self.old.dropped < 2 ^ 63 + 2 ^ 15 }
-        ensures { Advanced plan.now place most result self.old self.new }
+        ensures steps { Advanced plan.now place most result self.old self.new }
+        ensures stock { stock.old ≤ stock.new + result }
     {
-        let (made, asked) = self.run_alone(plan, place, most);
+        let (made, asked) = self.run_alone(plan, place, stock, most);
         let Some(effect) = asked else {
             return made;
         };
-        self.apply(plan, place, effect);
+        self.apply(plan, place, stock, effect);
         made + 1
     }
 
     /// Makes steps of the thread at a place, which runs, that ask nothing of the tile: at most this many, and none past the fuel.
     /// It says how many, and if it stopped before that, the effect of the next instruction.
     #[inline(always)]
-    fn run_alone(&mut self, plan: &Plan, place: u32, most: u32) -> (u32, Option<Effect>)
+    fn run_alone(
+        &mut self,
+        plan: &Plan,
+        place: u32,
+        stock: &mut PageStock,
+        most: u32,
+    ) -> (u32, Option<Effect>)
         requires there { place < tile_threads plan.now.shape }
         requires fits { IsFit plan.now self.old }
         requires runs { (thread_at self.old place).state ≡ ThreadState.Run }
+        requires pages { most ≤ stock.old }
         ensures steps { steps_of plan.now place result.0 self.old ≡ Some self.new }
         ensures next { Stops result.0 result.1 (min most (plan.now.shape.fuel - (thread_at self.old place).steps)) plan.now.code (thread_at self.new place) }
         ensures stays { StillRuns result.0 place self.old self.new }
+        ensures stock { stock.old ≤ stock.new + result.0 }
     {
         let fuel = plan.fuel();
         let left = fuel - self.threads.get(place).steps();
@@ -143,20 +170,22 @@ impl TileState {
             can_send: self.pending.is_free(place),
         };
         self.threads
-            .run_alone(place, plan.code(), &sight, most.min(left))
+            .run_alone(place, plan.code(), &sight, stock, most.min(left))
     }
 
     /// The step of the thread at a place, which runs, whose instruction has this effect.
     #[inline(always)]
-    fn apply(&mut self, plan: &Plan, place: u32, effect: Effect)
+    fn apply(&mut self, plan: &Plan, place: u32, stock: &mut PageStock, effect: Effect)
         requires there { place < tile_threads plan.now.shape }
         requires fits { IsFit plan.now self.old }
         requires can { IsTrue (can_step plan.now.shape.fuel place self.old) }
         requires runs { (thread_at self.old place).state ≡ ThreadState.Run }
         requires next { NextIs plan.now.code effect (thread_at self.old place) }
+        requires page { 0 < stock.old }
         requires counts { self.old.dropped < 2 ^ 63 + 2 ^ 16 }
         ensures row { self.new ≡ stepped plan.now.code place self.old }
         ensures count { self.new.dropped ≤ self.old.dropped + 512 }
+        ensures stock { stock.old ≤ stock.new + 1 }
     {
         let sight = TileSight {
             pool: &self.pool,
@@ -166,7 +195,7 @@ impl TileState {
         let threads = &mut self.threads;
         let thread = &mut threads.items[place as usize];
         let number = thread.sends();
-        match apply_next(plan.code(), thread, &sight, effect) {
+        match apply_next(plan.code(), thread, &sight, stock, effect) {
             Ask::None | Ask::Idle(_) => {}
             Ask::Send(dest) => self.post(plan, place, number, dest),
             Ask::Hand => {

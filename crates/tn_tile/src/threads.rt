@@ -11,6 +11,7 @@ use rv_isa::instr::Instr;
 use std::alloc::AllocError;
 use std::marker::Model;
 use tn_base::effect::Effect;
+use tn_pages::stock::PageStock;
 use tn_thread::state::ThreadState;
 use tn_thread::thread::Thread;
 use tn_thread::view::View;
@@ -70,15 +71,28 @@ impl Threads {
         at: u32,
         code: &[Option<Instr>],
         sight: &V,
+        stock: &mut PageStock,
         most: u32,
     ) -> (u32, Option<Effect>)
         requires there { at < length self.old }
         requires fuel { (slice_index_or self.old at no_thread).steps + most < 2 ^ 32 }
+        requires pages { most ≤ stock.old }
         ensures steps { RanAlone at result.0 code.now (V.sight sight.now) self.old self.new }
         ensures next { Stops result.0 result.1 most code.now (slice_index_or self.new at no_thread) }
+        ensures stock { stock.old ≤ stock.new + result.0 }
     {
         let thread = &mut self.items[at as usize];
-        run_code(code, thread, sight, most)
+        run_code(code, thread, sight, stock, most)
+    }
+
+    /// A stock of so many pages.
+    pub(crate) fn stock(&self, pages: u32) -> Result<PageStock, AllocError>
+        requires { pages ≤ 64 }
+        ensures { IfOk result (λ stock. stock ≡ pages) }
+    {
+        let mut stock = PageStock::of(self.items.allocator().clone()?);
+        stock.reserve(pages)?;
+        Ok(stock)
     }
 
     /// Gives each idle thread its answer.

@@ -3,8 +3,8 @@ use Rattle.tn_tile.specs.Step.{steps_of}
 use Rattle.tn_tile.proofs.Steps.{steps_more, steps_none}
 use Rattle.tn_tile.proofs.state.TileState.advance.Goals as goal
 
-pub returns-in_default : goal.returns-in_default
-returns-in_default c =
+pub returns-in_default-clause-steps : goal.returns-in_default-clause-steps
+returns-in_default-clause-steps c =
     let p = c.args.plan.now in
     let k = c.args.place in
     let s = c.args.self.now in

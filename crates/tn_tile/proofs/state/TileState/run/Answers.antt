@@ -7,8 +7,8 @@ use Rattle.tn_tile.proofs.state.TileState.run.Goals as goal
 pub apply-requires-clause-fits : goal.apply-requires-clause-fits
 apply-requires-clause-fits c = steps_fit c.run_alone-made.result.0 c.args.plan.now c.args.place c.args.self.now c.run_alone-made.new.self c.requires.there c.run_alone-made.ensures.steps c.requires.fits
 
-pub returns : goal.returns
-returns c =
+pub returns-clause-steps : goal.returns-clause-steps
+returns-clause-steps c =
     let p = c.args.plan.now in
     let k = c.args.place in
     let now = c.run_alone-made.new.self in

@@ -7,6 +7,7 @@ abbrev pub invariant-loop-made : goal.invariant-loop-made
 invariant-loop-made l = record {
   few : l.made ≤ l.most;
   steps : steps_of l.plan l.place l.made l.fn.self ≡ Some l.self;
+  pages : l.fn.stock ≤ l.stock + l.made;
   fits : IsFit l.plan l.self;
   counts : l.self.dropped ≤ l.fn.self.dropped + 512 * l.made;
 }
