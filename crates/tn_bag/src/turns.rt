@@ -30,9 +30,11 @@ pub(crate) fn push_turn(
 {
     tile.kept();
     let mut current = tile.copy()?;
+    let mut stock = tile.stock(0)?;
     for _made in 0..n {
         push_step(all, &current, t)?;
-        let _steps = current.turn_up_to(t, 1);
+        stock.reserve(1)?;
+        let _steps = current.turn_up_to(t, 1, &mut stock);
         current.kept();
     }
     Ok(())

@@ -6,6 +6,9 @@ use crate::page::Page;
 use std::alloc::{AllocError, Global};
 use std::marker::Model;
 
+/// How many pages a full stock has.
+pub const FULL: u32 = 64;
+
 /// At most 64 pages of zeros that are not in a memory yet. A contract sees how many there are.
 #[derive(Drop)]
 pub struct PageStock {

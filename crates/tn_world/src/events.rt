@@ -1,6 +1,6 @@
 //! Events on a machine.
 
-ghost use Rattle.std.specs.Prelude.{◌≡◌, ◌<◌, MatchOption, MatchResult, is_some, option_and_then, option_copied, option_map, slice_get};
+ghost use Rattle.std.specs.Prelude.{◌≡◌, ◌<◌, ◌≤◌, MatchOption, MatchResult, is_some, option_and_then, option_copied, option_map, slice_get};
 ghost use Rattle.std.specs.List.{list_all};
 ghost use Rattle.tn_base.specs.declared.event.Event.TheVariants as event;
 ghost use Rattle.tn_base.specs.Does.{Does};
@@ -9,7 +9,7 @@ ghost use Rattle.tn_rows.specs.Ends.{bad_key_on, ended_on, final_of, is_over, re
 ghost use Rattle.tn_rows.specs.Events.{Rests, happened};
 ghost use Rattle.tn_rows.specs.Listed.{arrivals, arrivals_from, deliveries, departures, departures_from, listed, routings, turns};
 ghost use Rattle.tn_rows.specs.Places.{part_of};
-ghost use Rattle.tn_tile.specs.Turns.{moved};
+ghost use Rattle.tn_tile.specs.Turns.{StockLasts, moved};
 ghost use Rattle.tn_world.specs.Plays.{First, NoneOf, Turns};
 
 use crate::part::Part;
@@ -19,6 +19,7 @@ use tn_base::event::{Event, Outcome};
 use tn_base::ids::{PartId, ThreadId};
 use tn_base::laws::law_threads;
 use tn_link::link::Link;
+use tn_pages::stock::PageStock;
 use tn_tile::deliver::Did;
 use tn_tile::step::Turned;
 
@@ -162,9 +163,11 @@ impl<L: Link> World<L> {
         }
     }
 
-    /// The longest turn of a thread.
-    pub(crate) fn turn(&mut self, t: ThreadId) -> Turned
-        ensures { Turns result t self.old self.new }
+    /// The longest turn of a thread, with pages of a full stock.
+    pub(crate) fn turn(&mut self, t: ThreadId, stock: &mut PageStock) -> Turned
+        requires { 64 ≤ stock.old }
+        ensures turn { Turns result t self.old self.new }
+        ensures stock { StockLasts result stock.old stock.new }
     {
         let Some(p) = self.part_of(t) else {
             return Turned::Nothing;
@@ -173,7 +176,7 @@ impl<L: Link> World<L> {
         if at >= self.parts.len() {
             return Turned::Nothing;
         }
-        self.parts[at].turn(t)
+        self.parts[at].turn(t, stock)
     }
 
     /// A turn of so many steps, where the thread can make them.

@@ -1,6 +1,6 @@
 //! A part of a machine.
 
-ghost use Rattle.std.specs.Prelude.{◌≡◌, ◌↔◌, ◌<◌, IfOk, IsTrue, MatchResult, is_some, not, option_copied, option_map};
+ghost use Rattle.std.specs.Prelude.{◌≡◌, ◌↔◌, ◌<◌, ◌≤◌, IfOk, IsTrue, MatchResult, is_some, not, option_copied, option_map};
 ghost use Rattle.tn_base.specs.declared.event.Event.TheVariants as event;
 ghost use Rattle.tn_base.specs.Address.{tile_threads};
 ghost use Rattle.tn_base.specs.Does.{Does};
@@ -13,7 +13,7 @@ ghost use Rattle.tn_router.specs.Rows.{route_row};
 ghost use Rattle.tn_stamp.specs.declared.entry.Crossing.TheVariants as crossing;
 ghost use Rattle.tn_tile.specs.Rows.{turn_row};
 ghost use Rattle.tn_tile.specs.TileView.{now_by};
-ghost use Rattle.tn_tile.specs.Turns.{moved};
+ghost use Rattle.tn_tile.specs.Turns.{StockLasts, moved};
 ghost use Rattle.tn_world.specs.Plays.{TurnsPart, offers};
 
 use std::alloc::AllocError;
@@ -22,6 +22,7 @@ use tn_base::event::Outcome;
 use tn_base::ids::{PartId, ThreadId};
 use tn_base::port::Port;
 use tn_link::link::Link;
+use tn_pages::stock::PageStock;
 use tn_router::moves::Routed;
 use tn_router::router::Router;
 use tn_thread::state::ThreadState;
@@ -153,12 +154,14 @@ impl<L: Link> Part<L> {
         }
     }
 
-    /// The longest turn of a thread.
-    pub(crate) fn turn(&mut self, t: ThreadId) -> Turned
-        ensures { TurnsPart result t self.old self.new }
+    /// The longest turn of a thread, with pages of a full stock.
+    pub(crate) fn turn(&mut self, t: ThreadId, stock: &mut PageStock) -> Turned
+        requires { 64 ≤ stock.old }
+        ensures turn { TurnsPart result t self.old self.new }
+        ensures stock { StockLasts result stock.old stock.new }
     {
         match &mut self.contents {
-            Contents::Tile(tile) if tile.is_here(t) => tile.turn(t),
+            Contents::Tile(tile) if tile.is_here(t) => tile.turn(t, stock),
             _ => Turned::Nothing,
         }
     }
@@ -351,7 +354,8 @@ fn turn_tile(tile: &mut Tile, t: ThreadId, n: u32) -> Result<Did, AllocError>
         return Ok(Did::Nothing);
     }
     let mut after = tile.copy()?;
-    if after.turn_up_to(t, n) < n {
+    let mut stock = tile.stock(n)?;
+    if after.turn_up_to(t, n, &mut stock) < n {
         return Ok(Did::Nothing);
     }
     *tile = after;

@@ -1,6 +1,6 @@
 //! Runs of a machine on one thread.
 
-ghost use Rattle.std.specs.Prelude.{◌≡◌, MatchOption, MatchResult, None};
+ghost use Rattle.std.specs.Prelude.{◌≡◌, ◌≤◌, MatchOption, MatchResult, None, ⊤};
 ghost use Rattle.tn_rows.specs.Events.{Rests, happened};
 ghost use Rattle.tn_world.specs.Plays.{Makes, Played, Reached};
 
@@ -10,6 +10,7 @@ use crate::world::World;
 use std::alloc::AllocError;
 use tn_base::event::Event;
 use tn_link::link::Link;
+use tn_pages::stock::{FULL, PageStock};
 use tn_tile::deliver::Did;
 use tn_tile::step::Turned;
 
@@ -24,8 +25,10 @@ pub fn play<L: Link>(world: &mut World<L>, limit: u64) -> Result<Vec<Event>, All
     let alloc = world.parts.allocator().clone()?;
     let mut agenda = Agenda::of(alloc, &world.shape, &world.sites)?;
     let mut history = Vec::new(alloc);
+    let mut stock = PageStock::of(alloc);
     while (history.len() as u64) < limit {
-        let Some(event) = next_move(world, &mut agenda) else {
+        stock.reserve(FULL)?;
+        let Some(event) = next_move(world, &mut agenda, &mut stock) else {
             return Ok(history);
         };
         history.push(event)?;
@@ -37,24 +40,35 @@ pub fn play<L: Link>(world: &mut World<L>, limit: u64) -> Result<Vec<Event>, All
 }
 
 /// The next event of the run; none where no event is enabled.
-fn next_move<L: Link>(world: &mut World<L>, agenda: &mut Agenda) -> Option<Event>
+fn next_move<L: Link>(
+    world: &mut World<L>,
+    agenda: &mut Agenda,
+    stock: &mut PageStock,
+) -> Option<Event>
+    requires { 64 ≤ stock.old }
     ensures { MatchOption result ((world.new ≡ world.old) × Rests world.old) (λ e. Makes e world.old world.new) }
 {
-    if let Some(event) = try_agenda(world, agenda) {
+    if let Some(event) = try_agenda(world, agenda, stock) {
         return Some(event);
     }
     let event = enabled(world)?;
     agenda.mark_all();
-    make(world, &event)
+    make(world, &event, stock)
 }
 
 /// The first event of the agenda that is enabled.
-fn try_agenda<L: Link>(world: &mut World<L>, agenda: &mut Agenda) -> Option<Event>
-    ensures { MatchOption result (world.new ≡ world.old) (λ e. Makes e world.old world.new) }
+fn try_agenda<L: Link>(
+    world: &mut World<L>,
+    agenda: &mut Agenda,
+    stock: &mut PageStock,
+) -> Option<Event>
+    requires { 64 ≤ stock.old }
+    ensures event { MatchOption result (world.new ≡ world.old) (λ e. Makes e world.old world.new) }
+    ensures stock { MatchOption result (64 ≤ stock.new) (λ _. ⊤) }
 {
     for _ in 0..MOST_TRIES {
         let tried = agenda.next(world)?;
-        if let Some(event) = make(world, &tried) {
+        if let Some(event) = make(world, &tried, stock) {
             agenda.happened(&event);
             return Some(event);
         }
@@ -62,12 +76,14 @@ fn try_agenda<L: Link>(world: &mut World<L>, agenda: &mut Agenda) -> Option<Even
     None
 }
 
-/// Makes an event where it is enabled; a turn becomes the longest one of its thread.
-fn make<L: Link>(world: &mut World<L>, e: &Event) -> Option<Event>
-    ensures { MatchOption result ((world.new ≡ world.old) × (happened e.now world.old ≡ None)) (λ made. Makes made world.old world.new) }
+/// Makes an event where it is enabled; a turn becomes the longest one of its thread. If no event is made, the stock stays full.
+fn make<L: Link>(world: &mut World<L>, e: &Event, stock: &mut PageStock) -> Option<Event>
+    requires { 64 ≤ stock.old }
+    ensures event { MatchOption result ((world.new ≡ world.old) × (happened e.now world.old ≡ None)) (λ made. Makes made world.old world.new) }
+    ensures stock { MatchOption result (64 ≤ stock.new) (λ _. ⊤) }
 {
     match *e {
-        Event::Turn(t, _) => match world.turn(t) {
+        Event::Turn(t, _) => match world.turn(t, stock) {
             Turned::Moved(n) => Some(Event::Turn(t, n)),
             Turned::Nothing => None,
         },

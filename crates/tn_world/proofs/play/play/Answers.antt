@@ -4,32 +4,32 @@ use Rattle.tn_world.proofs.play.play.Goals as goal
 
 pub returns-in_default : goal.returns-in_default
 returns-in_default g c =
-    let i = c.loop-world.invariant in
+    let i = c.loop-stock.invariant in
     let made = c.in_default.ensures in
-    played_rest c.args.limit c.args.world.now c.loop-world.history.items c.loop-world.world c.next_move.new.world i.0 i.1 made.0 made.1
+    played_rest c.args.limit c.args.world.now c.loop-stock.history.items c.loop-stock.world c.next_move.new.world i.0 i.1 made.0 made.1
 
 pub returns-in_err-push : goal.returns-in_err-push
 returns-in_err-push g c =
     let made = c.in-Some.ensures in
-    let less : length c.loop-world.history.items < c.args.limit = omega (arith, c.loop-world-test.true, c.len.ensures, c.loop-world.history.ok) in
-    on_error c.from_residual-in_err-push.result _ _ c.from_residual-in_err-push.ensures.0 (reached c.args.limit c.args.world.now c.loop-world.history.items c.loop-world.world c.next_move.new.world c.in-Some.event c.loop-world.invariant.0 less made)
+    let less : length c.loop-stock.history.items < c.args.limit = omega (arith, c.loop-stock-test.true, c.len.ensures, c.loop-stock.history.ok) in
+    on_error c.from_residual-in_err-push.result _ _ c.from_residual-in_err-push.ensures.0 (reached c.args.limit c.args.world.now c.loop-stock.history.items c.loop-stock.world c.next_move.new.world c.in-Some.event c.loop-stock.invariant.0 less made)
 
 pub returns-then-is_some : goal.returns-then-is_some
 returns-then-is_some g c =
-    let i = c.loop-world.invariant in
+    let i = c.loop-stock.invariant in
     let made = c.in-Some.ensures in
-    let less : length c.loop-world.history.items < c.args.limit = omega (arith, c.loop-world-test.true, c.len.ensures, c.loop-world.history.ok) in
-    played_final c.args.limit c.args.world.now c.loop-world.history.items c.push.new.self.items c.loop-world.world c.next_move.new.world c.in-Some.event i.0 less c.in_ok-push.ensures.items made (rw c.final_of.ensures at (sym c.is_some.ensures ∙ c.if-is_some.true))
+    let less : length c.loop-stock.history.items < c.args.limit = omega (arith, c.loop-stock-test.true, c.len.ensures, c.loop-stock.history.ok) in
+    played_final c.args.limit c.args.world.now c.loop-stock.history.items c.push.new.self.items c.loop-stock.world c.next_move.new.world c.in-Some.event i.0 less c.in_ok-push.ensures.items made (rw c.final_of.ensures at (sym c.is_some.ensures ∙ c.if-is_some.true))
 
-pub loop-world-preserved : goal.loop-world-preserved
-loop-world-preserved g c =
-    let i = c.loop-world.invariant in
+pub loop-stock-preserved : goal.loop-stock-preserved
+loop-stock-preserved g c =
+    let i = c.loop-stock.invariant in
     let made = c.in-Some.ensures in
-    let less : length c.loop-world.history.items < c.args.limit = omega (arith, c.loop-world-test.true, c.len.ensures, c.loop-world.history.ok) in
-    calm_on c.args.limit c.args.world.now c.loop-world.history.items c.push.new.self.items c.loop-world.world c.next_move.new.world c.in-Some.event i.0 less c.in_ok-push.ensures.items made (rw c.final_of.ensures at (sym c.is_some.ensures ∙ c.if-is_some.false))
+    let less : length c.loop-stock.history.items < c.args.limit = omega (arith, c.loop-stock-test.true, c.len.ensures, c.loop-stock.history.ok) in
+    calm_on c.args.limit c.args.world.now c.loop-stock.history.items c.push.new.self.items c.loop-stock.world c.next_move.new.world c.in-Some.event i.0 less c.in_ok-push.ensures.items made (rw c.final_of.ensures at (sym c.is_some.ensures ∙ c.if-is_some.false))
 
 pub returns : goal.returns
 returns g c =
-    let i = c.loop-world.invariant in
-    let all : c.args.limit ≤ length c.loop-world.history.items = omega (arith, c.loop-world-test.false, c.len.ensures, c.loop-world.history.ok) in
-    played_limit c.args.limit c.args.world.now c.loop-world.history.items c.loop-world.world i.0 i.1 all
+    let i = c.loop-stock.invariant in
+    let all : c.args.limit ≤ length c.loop-stock.history.items = omega (arith, c.loop-stock-test.false, c.len.ensures, c.loop-stock.history.ok) in
+    played_limit c.args.limit c.args.world.now c.loop-stock.history.items c.loop-stock.world i.0 i.1 all
