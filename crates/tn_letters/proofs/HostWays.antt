@@ -1,5 +1,5 @@
 -- By a router's way to the host only packets for the host go.
-use Rattle.std.proofs.Common.{ℕ, ◌≡◌, ◌+◌, ◌==◌, cond, refl, ap, subst, sym, ltb, Option, Some, None, MatchOption, is_some}
+use Rattle.std.proofs.Common.{ℕ, ◌≡◌, ◌+◌, ◌==◌, refl, subst, sym, ltb, Option, Some, None, MatchOption, is_some}
 use Rattle.std.proofs.lemmas.Bool.{cond_both}
 use Rattle.tn_base.specs.declared.ids.Board.{Board}
 use Rattle.tn_base.specs.declared.message.Dest.{Dest}
@@ -15,13 +15,13 @@ use Rattle.tn_keys.specs.declared.record.RouteRec.TheVariants.{Urm1, Urm2, Rr, M
 use Rattle.tn_keys.specs.Copies.{keyed, neighbour, tile_address}
 use Rattle.tn_keys.specs.Tables.{Table, is_bad_key}
 use Rattle.tn_node.specs.declared.ports.Ports.{Ports}
-use Rattle.tn_node.specs.PortRows.{at, with_at}
+use Rattle.tn_node.specs.PortRows.{with_at}
 use Rattle.tn_node.proofs.PortLaws.{each_set}
 use Rattle.tn_router.specs.declared.moves.Move.{Move}
 use Rattle.tn_router.specs.declared.moves.Sent.{Sent}
 use Rattle.tn_router.specs.declared.state.RouterState.{RouterState}
 use Rattle.tn_router.specs.declared.work.Work.{Work}
-use Rattle.tn_router.specs.Moves.{copy_by, key_move, move_of, move_to, record_move, sent_if, way_of}
+use Rattle.tn_router.specs.Moves.{copy_by, move_of, move_to, record_move, sent_if, way_of}
 use Rattle.tn_router.specs.Rest.{next_record}
 use Rattle.tn_router.specs.RouterView.{RouterPlan}
 use Rattle.tn_router.specs.Rows.{carried, with_sent}

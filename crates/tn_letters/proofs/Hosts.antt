@@ -1,7 +1,7 @@
 -- The host's events: a letter that it sends comes into flight, and a letter that it takes leaves the flight.
-use Rattle.std.proofs.Common.{ℕ, ◌+◌, ◌<◌, ◌≡◌, ◌&&◌, ◌++◌, Bool, true, false, cond, List, [], ◌∷◌, get_or, length, refl, sym, ◌∙◌, ap, subst, arith, Option, Some, None, option_map, unwrap_or, IsTrue, sum_by}
+use Rattle.std.proofs.Common.{ℕ, ◌+◌, ◌<◌, ◌≡◌, ◌++◌, Bool, true, false, cond, List, [], ◌∷◌, get_or, refl, sym, ◌∙◌, ap, subst, arith, Option, Some, None, option_map, IsTrue, sum_by}
 use Rattle.std.specs.List.{AllByRecursion}
-use Rattle.std.proofs.lemmas.Bool.{and_from, and_parts}
+use Rattle.std.proofs.lemmas.Bool.{and_from}
 use Rattle.std.proofs.lemmas.List.{get_or-set_same}
 use Rattle.std.proofs.lemmas.List.Sums.{sum_by-cons}
 use Rattle.std.proofs.lemmas.Nat.{mul-le}
@@ -16,12 +16,12 @@ use Rattle.tn_base.specs.declared.part.Kind.{Kind}
 use Rattle.tn_base.specs.declared.part.Kind.TheVariants as kind
 use Rattle.tn_base.specs.declared.shape.ShapeNumbers.{ShapeNumbers}
 use Rattle.tn_base.specs.Message.{has_packet}
-use Rattle.tn_base.specs.Parts.{board_at, board_count, kind_of, link, router_part}
+use Rattle.tn_base.specs.Parts.{board_count, kind_of, link, router_part}
 use Rattle.tn_base.specs.Shape.{WithinLimits}
 use Rattle.tn_host.specs.declared.script.ScriptItem.{ScriptItem}
 use Rattle.tn_host.specs.declared.script.ScriptItem.TheVariants as item
 use Rattle.tn_host.specs.HostView.{HostState}
-use Rattle.tn_host.specs.Rows.{departed, host_letter, offered, put_row, take_row, took}
+use Rattle.tn_host.specs.Rows.{departed, host_letter, put_row, take_row, took}
 use Rattle.tn_host.specs.Script.{first_item, host_address, items_behind, packet_of}
 use Rattle.tn_host.proofs.Deeds.{put_is, taken_is}
 use Rattle.tn_keys.specs.Reach.{Reach}
@@ -33,7 +33,7 @@ use Rattle.tn_tile.proofs.Steps.{taken}
 use Rattle.tn_rows.proofs.Meeting.{mapped, met_rows}
 use Rattle.tn_rows.proofs.Neighbours.{kind_router}
 use Rattle.tn_rows.specs.Events.{Met, meets, met_by, met_with, with_both, with_part}
-use Rattle.tn_rows.specs.PartView.{PartView, HostV, LinkV, AbsentV}
+use Rattle.tn_rows.specs.PartView.{HostV, LinkV, AbsentV}
 use Rattle.tn_rows.specs.WorldView.{WorldView}
 use Rattle.tn_letters.specs.declared.steps.BagStep.TheVariants as bag
 use Rattle.tn_letters.specs.Law.{IsSendable}
@@ -41,14 +41,14 @@ use Rattle.tn_letters.specs.Letters.{letter, letters_from, link_board}
 use Rattle.tn_letters.specs.Standing.{standing_letters}
 use Rattle.tn_letters.specs.State.{BagState}
 use Rattle.tn_letters.specs.Steps.{send_steps, take_steps}
-use Rattle.tn_letters.specs.Tiles.{host_in, host_on, program_of, reach_of}
+use Rattle.tn_letters.specs.Tiles.{host_in, host_on, reach_of}
 use Rattle.tn_letters.proofs.Becomes.{nothing}
 use Rattle.tn_letters.proofs.Crossings.{home_put, home_take, put_more, take_less}
 use Rattle.tn_letters.proofs.Lift.{Good, IsForHost, OnLink, OnPart, StandsAt, host_stays, is_host, is_tile, leads_to_host, leads_to_tile, part_on, stands_on}
 use Rattle.tn_letters.proofs.Links.{Shifted, Shifts, beside, link_shifts, shifted, shifts_beside, two_parts}
 use Rattle.tn_letters.proofs.Runs.{same_refl}
 use Rattle.tn_letters.proofs.Simulate.{Reached, shown}
-use Rattle.tn_letters.proofs.Weights.{crossing_w, link_w, same_bag}
+use Rattle.tn_letters.proofs.Weights.{crossing_w, same_bag}
 
 -- ---- the link from the host leads to a router
 
@@ -141,7 +141,7 @@ pair_is w p q new next m low high = λ i. with_both w p q (record { low = low i;
 one_weighs : (f : Letter → ℕ) (c : Board) (n : ShapeNumbers) (reach : Reach) (k : Packet) (d : Dest) (l : Letter) → k.dest ≡ d → IsTrue (has_packet n k) → letters_from c n reach k.origin k.number d k.bytes ≡ l ∷ [] → crossing_w f c n reach k ≡ f l
 one_weighs f c n reach k d l to fits is =
     let all : crossing_w f c n reach k ≡ sum_by f (l ∷ []) = ap (λ b. cond b (sum_by f (letters_from c n reach k.origin k.number k.dest k.bytes)) 0) fits
-        ∙ (ap (λ x. sum_by f (letters_from c n reach k.origin k.number x k.bytes)) to ∙ ap (λ (ls : List Letter). sum_by f ls) is) in
+    ∙ (ap (λ x. sum_by f (letters_from c n reach k.origin k.number x k.bytes)) to ∙ ap (λ (ls : List Letter). sum_by f ls) is) in
     let sum = sum_by-cons f l [] in
     omega arith
 
@@ -162,8 +162,8 @@ send_reached got dropped w p q s t bytes items x y good on off first no_tile no_
     let fits : IsTrue (has_packet w.shape k) = and_from _ _ old.0.0 old.0.1 in
     let rest : (departed s).script ≡ items = ap items_behind script in
     let link : Shifts w q (LinkV x) (LinkV y) (of_letter l) nothing = link_shifts w q x y (of_letter l) nothing good off
-        (home_put w.shape q k x y put (part_on w q (LinkV x) good off) (λ leads. absurd (no_both _ leads no_tile)) (λ leads. absurd (no_both _ leads no_host)))
-        (λ f. let more = put_more f (link_board w.shape q) w.shape (reach_of w) k x y put in let one = one_weighs f (link_board w.shape q) w.shape (reach_of w) k (dest.Thread t) l refl fits refl in omega arith) in
+    (home_put w.shape q k x y put (part_on w q (LinkV x) good off) (λ leads. absurd (no_both _ leads no_tile)) (λ leads. absurd (no_both _ leads no_host)))
+    (λ f. let more = put_more f (link_board w.shape q) w.shape (reach_of w) k x y put in let one = one_weighs f (link_board w.shape q) w.shape (reach_of w) k (dest.Thread t) l refl fits refl in omega arith) in
     let h : HostShifted w there (departed s) (of_letter l) nothing = host_shifted w p q s (departed s) x y (of_letter l) nothing good on off first (subst (AllByRecursion (IsSendable w.shape)) (sym rest) old.1) link in
     let was : host_on w ≡ s = host_is w p s on first in
     let before : BagState = shown got dropped w in
@@ -225,7 +225,7 @@ hand_reached got dropped w p q s x y k good on off first no_tile to_host front t
     let t = home_take w.shape q k x y front take (part_on w q (LinkV x) good off) in
     let for_host : IsForHost w.shape k = t.for_host to_host in
     let link : Shifts w q (LinkV x) (LinkV y) nothing (of_letter l) = link_shifts w q x y nothing (of_letter l) good off t.good
-        (λ f. let less = take_less f (link_board w.shape q) w.shape (reach_of w) k x y front take in let one = one_weighs f (link_board w.shape q) w.shape (reach_of w) k dest.Host l for_host.1 for_host.0 refl in omega arith) in
+    (λ f. let less = take_less f (link_board w.shape q) w.shape (reach_of w) k x y front take in let one = one_weighs f (link_board w.shape q) w.shape (reach_of w) k dest.Host l for_host.1 for_host.0 refl in omega arith) in
     let h : HostShifted w there (took k s) nothing (of_letter l) = host_shifted w p q s (took k s) x y nothing (of_letter l) good on off first (part_on w p (HostV s) good on) link in
     let was : host_on w ≡ s = host_is w p s on first in
     let before : BagState = shown got dropped w in
