@@ -5,6 +5,7 @@ use Rattle.tn_base.specs.declared.message.Letter.{Letter}
 use Rattle.tn_base.specs.declared.message.Packet.{Packet}
 use Rattle.tn_base.specs.declared.shape.ShapeNumbers.{ShapeNumbers}
 use Rattle.tn_base.specs.Address.{has_thread, place_in_tile}
+use Rattle.tn_host.specs.HostView.{HostState}
 use Rattle.tn_link.specs.LinkView.{LinkView}
 use Rattle.tn_slots.specs.WellKept.{WellKept}
 use Rattle.tn_tile.specs.Kept.{IsFit}
@@ -20,9 +21,9 @@ use Rattle.tn_letters.specs.Letters.{board_of, link_board}
 use Rattle.tn_keys.specs.Reach.{Reach}
 use Rattle.tn_letters.specs.Standing.{standing_letters}
 use Rattle.tn_letters.specs.State.{Agree}
-use Rattle.tn_letters.specs.Tiles.{held_in, held_of, part_for, program_of, reach_of, thread_in, thread_of}
-use Rattle.tn_letters.proofs.Lift.{Good, HomeLink, HomeTile, On, OnLink, good_lift, good_now, lift_same, program_stays, tile_is, tile_on, tile_stands, with_tile}
-use Rattle.tn_letters.proofs.Links.{Shifts, link_shifts, shifted, shifts_beside, two_parts}
+use Rattle.tn_letters.specs.Tiles.{held_in, held_of, host_on, part_for, program_of, reach_of, thread_in, thread_of}
+use Rattle.tn_letters.proofs.Lift.{Good, GoodLink, HomeTile, On, OnLink, good_lift, good_now, host_beside, host_stays, lift_same, program_stays, tile_is, tile_on, tile_stands, with_tile}
+use Rattle.tn_letters.proofs.Links.{Shifts, beside, link_shifts, shifted, shifts_beside, two_parts}
 use Rattle.tn_letters.proofs.Runs.{ForDead, discards, run_before}
 use Rattle.tn_letters.proofs.Simulate.{Reached, dropped_after, shown}
 use Rattle.tn_letters.proofs.Weights.{link_w, packet_w, same_bag, tile_w}
@@ -36,6 +37,7 @@ pub record Becomes (w there : WorldView) (ls : List Letter) : Type 0 where
   pub good : Good there
   pub program : program_of there ≡ program_of w
   pub count : dropped_in there ≡ dropped_in w + length ls
+  pub host : host_on w ≡ host_on there
 
 -- the letters are dropped one after another, where their receivers ended
 pub becomes_reached : (got : ℕ → List Letter) (dropped : List Letter) (w there : WorldView) (ls : List Letter) → there.shape ≡ w.shape → Becomes w there ls → ForDead w.shape (shown got dropped there) ls → Reached got dropped w (map bag.Discard ls) there
@@ -52,9 +54,9 @@ becomes_reached got dropped w there ls same d dead = record {
         got = λ b h. refl;
         held = d.held;
         dropped = refl;
-        host = refl;
-        script = refl;
-        host_sends = refl;
+        host = ap (λ (h : HostState). h.got) d.host;
+        script = ap (λ (h : HostState). h.script) d.host;
+        host_sends = ap (λ (h : HostState). h.sends) d.host;
         announcements = refl;
       })
       (discards (program_of w) (shown got dropped there) ls (standing_letters there) dropped dead);
@@ -107,10 +109,11 @@ tile_becomes w p v new ls good on d = record {
       let a = dropped_after w p v (with_now v new) on in
       let m = d.dropped in
       omega arith;
+  host = host_beside w p v (with_now v new) on;
 }
 
 -- an event on a tile and a link: what the one gains, the other loses
-pub pair_becomes : (w : WorldView) (p q : ℕ) (v : TileView) (new : TileState) (x y : LinkView) (ls : List Letter) (came gone : (Letter → ℕ) → ℕ) → Good w → On w p v → OnLink w q x → Drops w v new ls came gone → HomeLink w.shape q y →
+pub pair_becomes : (w : WorldView) (p q : ℕ) (v : TileView) (new : TileState) (x y : LinkView) (ls : List Letter) (came gone : (Letter → ℕ) → ℕ) → Good w → On w p v → OnLink w q x → Drops w v new ls came gone → GoodLink w.shape q y →
     ((f : Letter → ℕ) → came f + link_w f (link_board w.shape q) w.shape (reach_of w) y ≡ gone f + link_w f (link_board w.shape q) w.shape (reach_of w) x) → Becomes w (with_part (with_tile w p (with_now v new)) q (LinkV y)) ls
 pair_becomes w p q v new x y ls came gone good on off d home between =
     let mid : WorldView = with_tile w p (with_now v new) in
@@ -132,4 +135,5 @@ pair_becomes w p q v new x y ls came gone good on off d home between =
           let b = second.count in
           let m = d.dropped in
           omega arith;
+      host = host_beside w p v (with_now v new) on ∙ sym (host_stays mid q (LinkV x) (LinkV y) (beside w p q (TileV (with_now v new)) (LinkV x) apart off) refl);
     }

@@ -44,7 +44,7 @@ use Rattle.tn_letters.specs.Tiles.{reach_of}
 use Rattle.tn_letters.proofs.Becomes.{Becomes, Drops, becomes_reached, nothing, of_packet, pair_becomes, threads_stay}
 use Rattle.tn_letters.proofs.Delivery.{discards_are, dropped_letters, packet_passes}
 use Rattle.tn_letters.proofs.Homes.{AtHome, home_way}
-use Rattle.tn_letters.proofs.Lift.{Good, GoodTile, HomeLink, Homed, On, OnLink, leads_to_tile, part_on, tile_on, with_tile}
+use Rattle.tn_letters.proofs.Lift.{Good, GoodLink, GoodTile, Homed, IsForHost, On, OnLink, leads_to_host, leads_to_tile, part_on, tile_on, with_tile}
 use Rattle.tn_letters.proofs.Simulate.{Reached}
 use Rattle.tn_letters.proofs.Weights.{buffers_w, crossing_w, link_w, packet_w, ports_set}
 
@@ -108,12 +108,27 @@ home_joined : (b : Board) (ps qs : List Packet) → AllByRecursion (Homed b) ps 
 home_joined b [] qs p q = q
 home_joined b (k ∷ ps) qs p q = (p.0, home_joined b ps qs p.1 q)
 
-pub home_put : (n : ShapeNumbers) (q : ℕ) (k : Packet) (x y : LinkView) → put_in k x ≡ Some y → HomeLink n q x → (leads_to_tile n (kind_of n q) ≡ true → Homed (link_board n q) k) → HomeLink n q y
-home_put n q k x y e home at = λ leads. subst (AllByRecursion (Homed (link_board n q))) (sym (put_is k x y e)) (home_joined (link_board n q) x.packets (k ∷ []) (home leads) (at leads, tt))
+for_host_joined : (n : ShapeNumbers) (ps qs : List Packet) → AllByRecursion (IsForHost n) ps → AllByRecursion (IsForHost n) qs → AllByRecursion (IsForHost n) (ps ++ qs)
+for_host_joined n [] qs p q = q
+for_host_joined n (k ∷ ps) qs p q = (p.0, for_host_joined n ps qs p.1 q)
 
-pub home_take : (n : ShapeNumbers) (q : ℕ) (k : Packet) (x y : LinkView) → front_of x ≡ Some k → take_from x ≡ Some y → HomeLink n q x → (leads_to_tile n (kind_of n q) ≡ true → Homed (link_board n q) k) × HomeLink n q y
-home_take n q k x y front e home =
-    (λ leads. (subst (AllByRecursion (Homed (link_board n q))) (take_is k x y front e) (home leads)).0, λ leads. (subst (AllByRecursion (Homed (link_board n q))) (take_is k x y front e) (home leads)).1)
+pub home_put : (n : ShapeNumbers) (q : ℕ) (k : Packet) (x y : LinkView) → put_in k x ≡ Some y → GoodLink n q x → (leads_to_tile n (kind_of n q) ≡ true → Homed (link_board n q) k) → (leads_to_host n (kind_of n q) ≡ true → IsForHost n k) → GoodLink n q y
+home_put n q k x y e good at for_host = record {
+  home = λ leads. subst (AllByRecursion (Homed (link_board n q))) (sym (put_is k x y e)) (home_joined (link_board n q) x.packets (k ∷ []) (good.home leads) (at leads, tt));
+  host = λ leads. subst (AllByRecursion (IsForHost n)) (sym (put_is k x y e)) (for_host_joined n x.packets (k ∷ []) (good.host leads) (for_host leads, tt));
+}
+
+-- what a link that loses its first packet tells of it, and what still holds of the link
+pub record Taking (n : ShapeNumbers) (q : ℕ) (k : Packet) (y : LinkView) : Type 0 where
+  pub homed : leads_to_tile n (kind_of n q) ≡ true → Homed (link_board n q) k
+  pub for_host : leads_to_host n (kind_of n q) ≡ true → IsForHost n k
+  pub good : GoodLink n q y
+
+pub home_take : (n : ShapeNumbers) (q : ℕ) (k : Packet) (x y : LinkView) → front_of x ≡ Some k → take_from x ≡ Some y → GoodLink n q x → Taking n q k y
+home_take n q k x y front e good =
+    let all : leads_to_tile n (kind_of n q) ≡ true → AllByRecursion (Homed (link_board n q)) (k ∷ y.packets) = λ leads. subst (AllByRecursion (Homed (link_board n q))) (take_is k x y front e) (good.home leads) in
+    let hosts : leads_to_host n (kind_of n q) ≡ true → AllByRecursion (IsForHost n) (k ∷ y.packets) = λ leads. subst (AllByRecursion (IsForHost n)) (take_is k x y front e) (good.host leads) in
+    record { homed = λ leads. (all leads).0; for_host = λ leads. (hosts leads).0; good = record { home = λ leads. (all leads).1; host = λ leads. (hosts leads).1 } }
 
 by_board : (f : Letter → ℕ) (b c : Board) (n : ShapeNumbers) (reach : Reach) (k : Packet) (d : Dest) → (is_keyed d ≡ true → b ≡ c) →
     sum_by f (letters_from b n reach k.origin k.number d k.bytes) ≡ sum_by f (letters_from c n reach k.origin k.number d k.bytes)
@@ -166,15 +181,15 @@ depart_is way s new e =
     let m = mapped (with_node s) (node_departs way s.node) new e in
     ap (with_node s) (departed_by (offered way s.node) way s.node m.0 m.1) ∙ m.2
 
-depart_reached : (got : ℕ → List Letter) (dropped : List Letter) (w : WorldView) (p q : ℕ) (v : TileView) (new : TileState) (x y : LinkView) (way : Port) (k : Packet) → Good w → On w p v → OnLink w q x → link_board w.shape q ≡ board_of v.plan.tile →
+depart_reached : (got : ℕ → List Letter) (dropped : List Letter) (w : WorldView) (p q : ℕ) (v : TileView) (new : TileState) (x y : LinkView) (way : Port) (k : Packet) → Good w → On w p v → OnLink w q x → link_board w.shape q ≡ board_of v.plan.tile → (leads_to_host w.shape (kind_of w.shape q) ≡ true → ⊥) →
     offered way v.now.node ≡ Some k → depart_row way v.now ≡ Some new → put_in k x ≡ Some y → Reached got dropped w [] (with_part (with_tile w p (with_now v new)) q (LinkV y))
-depart_reached got dropped w p q v new x y way k good on off board offer row put =
+depart_reached got dropped w p q v new x y way k good on off board elsewhere offer row put =
     let t = tile_on w p v good on in
     let there : at way v.now.node.out ≡ Some k = not_held v.now.node.held (at way v.now.node.out) k offer in
     let fits : IsTrue (has_packet v.plan.shape k) = (subst (λ (o : Option Packet). MatchOption o (Unit {0}) (λ p. IsPacket v.plan.shape p × IsTrue (has_way way))) there (t.shaped.fits.out way)).0 in
     let home : Homed (link_board w.shape q) k = λ keyed. subst (AtHome (board_of v.plan.tile)) there (t.home.goes_on way) keyed ∙ sym board in
     let d : Drops w v new [] nothing (of_packet v.plan.shape (reach_of w) k) = subst (λ z. Drops w v z [] nothing (of_packet v.plan.shape (reach_of w) k)) (depart_is way v.now new row) (off_drops w v way k p t there) in
-    let b = pair_becomes w p q v new x y [] nothing (of_packet v.plan.shape (reach_of w) k) good on off d (home_put w.shape q k x y put (part_on w q (LinkV x) good off) (λ leads. home))
+    let b = pair_becomes w p q v new x y [] nothing (of_packet v.plan.shape (reach_of w) k) good on off d (home_put w.shape q k x y put (part_on w q (LinkV x) good off) (λ leads. home) (λ leads. absurd (elsewhere leads)))
     (λ f.
     let more = put_more f (link_board w.shape q) w.shape (reach_of w) k x y put in
     let weighs = crossing_weighs f (link_board w.shape q) v.plan.shape (reach_of w) k fits home in
@@ -182,19 +197,19 @@ depart_reached got dropped w p q v new x y way k good on off board offer row put
     omega arith) in
     becomes_reached got dropped w (with_part (with_tile w p (with_now v new)) q (LinkV y)) [] refl b tt
 
-depart_by : (got : ℕ → List Letter) (dropped : List Letter) (w : WorldView) (p q : ℕ) (v : TileView) (x : LinkView) (m : Met) (here there : PartId) (o : Option Packet) → Good w → On w p v → OnLink w q x → link_board w.shape q ≡ board_of v.plan.tile → offered (link_way v.plan.shape there.0) v.now.node ≡ o →
+depart_by : (got : ℕ → List Letter) (dropped : List Letter) (w : WorldView) (p q : ℕ) (v : TileView) (x : LinkView) (m : Met) (here there : PartId) (o : Option Packet) → Good w → On w p v → OnLink w q x → link_board w.shape q ≡ board_of v.plan.tile → (leads_to_host w.shape (kind_of w.shape q) ≡ true → ⊥) → offered (link_way v.plan.shape there.0) v.now.node ≡ o →
     met_with (event.Depart here there) (TileV v) (LinkV x) (option_map crossing.Packet o) ≡ Some m → Reached got dropped w [] (with_both w p q m)
-depart_by got dropped w p q v x m here there None good on off board offer is = cc is
-depart_by got dropped w p q v x m here there (Some k) good on off board offer is =
+depart_by got dropped w p q v x m here there None good on off board elsewhere offer is = cc is
+depart_by got dropped w p q v x m here there (Some k) good on off board elsewhere offer is =
     let way : Port = link_way v.plan.shape there.0 in
     let b = both_rows v (option_map (with_node v.now) (give_row way k v.now.node)) (put_in k x) m is in
     let row : depart_row way v.now ≡ Some b.new = sym (ap (λ o. option_map (with_node v.now) o) (given way k v.now.node offer)) ∙ b.tile in
     subst (λ (z : WorldView). Reached got dropped w [] z) (pair_is w p q (with_now v b.new) b.next m b.low b.high)
-    (depart_reached got dropped w p q v b.new x b.next way k good on off board offer row b.link)
+    (depart_reached got dropped w p q v b.new x b.next way k good on off board elsewhere offer row b.link)
 
-pub departure_reached : (got : ℕ → List Letter) (dropped : List Letter) (w : WorldView) (p q : ℕ) (v : TileView) (x : LinkView) (m : Met) (here there : PartId) → Good w → On w p v → OnLink w q x → link_board w.shape q ≡ board_of v.plan.tile →
+pub departure_reached : (got : ℕ → List Letter) (dropped : List Letter) (w : WorldView) (p q : ℕ) (v : TileView) (x : LinkView) (m : Met) (here there : PartId) → Good w → On w p v → OnLink w q x → link_board w.shape q ≡ board_of v.plan.tile → (leads_to_host w.shape (kind_of w.shape q) ≡ true → ⊥) →
     met_with (event.Depart here there) (TileV v) (LinkV x) (option_map crossing.Packet (offered (link_way v.plan.shape there.0) v.now.node)) ≡ Some m → Reached got dropped w [] (with_both w p q m)
-departure_reached got dropped w p q v x m here there good on off board is = depart_by got dropped w p q v x m here there (offered (link_way v.plan.shape there.0) v.now.node) good on off board refl is
+departure_reached got dropped w p q v x m here there good on off board elsewhere is = depart_by got dropped w p q v x m here there (offered (link_way v.plan.shape there.0) v.now.node) good on off board elsewhere refl is
 
 -- ---- an arrival
 
@@ -230,11 +245,11 @@ arrive_reached got dropped w p q v new x y k good on off board leads front row t
     let ls : List Letter = dropped_letters w k v in
     let a = accepted_is k v new row in
     let homes = home_take w.shape q k x y front take (part_on w q (LinkV x) good off) in
-    let home : Homed (link_board w.shape q) k = homes.0 leads in
+    let home : Homed (link_board w.shape q) k = homes.homed leads in
     let passes = packet_passes w p v a.mid k good.limits t a.fits (λ keyed. home keyed ∙ board) a.passes in
     let d : Drops w v new ls (of_packet v.plan.shape (reach_of w) k) nothing = subst (λ z. Drops w v z ls (of_packet v.plan.shape (reach_of w) k) nothing) a.is (arrived_drops w v a.mid ls (of_packet v.plan.shape (reach_of w) k) nothing passes.drops) in
     let there : WorldView = with_part (with_tile w p (with_now v new)) q (LinkV y) in
-    let b : Becomes w there ls = pair_becomes w p q v new x y ls (of_packet v.plan.shape (reach_of w) k) nothing good on off d homes.1
+    let b : Becomes w there ls = pair_becomes w p q v new x y ls (of_packet v.plan.shape (reach_of w) k) nothing good on off d homes.good
     (λ f.
     let less = take_less f (link_board w.shape q) w.shape (reach_of w) k x y front take in
     let weighs = crossing_weighs f (link_board w.shape q) v.plan.shape (reach_of w) k a.fits home in

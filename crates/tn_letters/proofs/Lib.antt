@@ -6,6 +6,8 @@ pub mod Delivery
 pub mod Fitting
 pub mod Holding
 pub mod Homes
+pub mod HostWays
+pub mod Hosts
 pub mod Lift
 pub mod Links
 pub mod Moves

@@ -10,6 +10,9 @@ use Rattle.tn_base.specs.Parts.{JoinsVisited, board_count, kind_of, part_count, 
 use Rattle.tn_base.specs.declared.ids.Board.{Board}
 use Rattle.tn_base.specs.declared.message.Packet.{Packet}
 use Rattle.tn_base.specs.declared.port.Port.{Port}
+use Rattle.tn_base.specs.declared.port.Port.TheVariants as port
+use Rattle.tn_base.specs.declared.message.Dest.TheVariants as dest
+use Rattle.tn_base.specs.Message.{has_packet}
 use Rattle.tn_keys.specs.Accepted.{Accepted}
 use Rattle.tn_keys.specs.Reach.{Reach, reach}
 use Rattle.tn_keys.specs.Tables.{Table, table_of}
@@ -29,11 +32,12 @@ use Rattle.tn_base.specs.declared.part.Kind.{Kind}
 use Rattle.tn_base.specs.declared.part.Kind.TheVariants as kind
 use Rattle.tn_link.specs.LinkView.{LinkView}
 use Rattle.tn_rows.specs.Events.{with_part}
-use Rattle.tn_rows.specs.PartView.{PartView, TileV, RouterV, LinkV, AbsentV}
+use Rattle.tn_rows.specs.PartView.{PartView, TileV, RouterV, LinkV, HostV, AbsentV}
 use Rattle.tn_rows.specs.WorldView.{WorldView}
+use Rattle.tn_letters.specs.Law.{IsSendable}
 use Rattle.tn_letters.specs.Standing.{standing_letters}
 use Rattle.tn_letters.specs.State.{put}
-use Rattle.tn_letters.specs.Tiles.{beats_on, part_for, program_of, reach_of, tables_of, tile_for, tile_in}
+use Rattle.tn_letters.specs.Tiles.{beats_on, host_in, host_on, part_for, program_of, reach_of, tables_of, tile_for, tile_in}
 use Rattle.tn_letters.proofs.Sums.{sum_one}
 use Rattle.tn_letters.proofs.Weights.{part_w, standing_is, tile_w}
 
@@ -58,11 +62,26 @@ pub record GoodTile (n : ShapeNumbers) (p : ℕ) (v : TileView) : Type 0 where
 pub good_now : (n : ShapeNumbers) (p : ℕ) (v : TileView) (s : TileState) → GoodTile n p v → IsFit v.plan s → WellKept s.pool → HomeTile (board_of v.plan.tile) s.pending s.node.out → GoodTile n p (with_now v s)
 good_now n p v s t fit kept home = record { shape = t.shape; shaped = record { tile = t.shaped.tile; fits = fit }; kept = kept; part = t.part; home = home }
 
+-- by the way to the host only packets for the host go
+abbrev pub ForHost : Port → Option Packet → Type 0
+ForHost port.East o = Unit {0}
+ForHost port.West o = Unit {0}
+ForHost port.South o = Unit {0}
+ForHost port.North o = Unit {0}
+ForHost port.Up o = Unit {0}
+ForHost port.Down o = Unit {0}
+ForHost port.HostPort o = MatchOption o (Unit {0}) (λ k. k.dest ≡ dest.Host)
+ForHost port.Here o = Unit {0}
+
+abbrev pub HostWay : Ports Packet → Type 0
+HostWay out = (way : Port) → ForHost way (at way out)
+
 -- what holds of each router of a machine with these tables
 pub record GoodRouter (n : ShapeNumbers) (tables : List Table) (v : RouterView) : Type 0 where
   pub shape : v.plan.shape ≡ n
   pub shaped : RouterShaped v
   pub beats : v.plan.beats ≡ table_of n tables v.plan.board
+  pub host : HostWay v.now.node.out
 
 abbrev pub is_tile : Kind → Bool
 is_tile kind.Host = false
@@ -83,11 +102,36 @@ leads_to_tile n kind.Detector = false
 abbrev pub HomeLink : ShapeNumbers → ℕ → LinkView → Type 0
 HomeLink n q x = leads_to_tile n (kind_of n q) ≡ true → AllByRecursion (Homed (link_board n q)) x.packets
 
+abbrev pub is_host : Kind → Bool
+is_host kind.Host = true
+is_host (kind.Tile tile) = false
+is_host (kind.Router board) = false
+is_host (kind.Link from onto) = false
+is_host kind.Detector = false
+
+-- a part is a link that leads to the host
+abbrev pub leads_to_host : ShapeNumbers → Kind → Bool
+leads_to_host n kind.Host = false
+leads_to_host n (kind.Tile tile) = false
+leads_to_host n (kind.Router board) = false
+leads_to_host n (kind.Link from onto) = is_host (kind_of n onto.0)
+leads_to_host n kind.Detector = false
+
+-- a packet of the machine for the host
+abbrev pub IsForHost : ShapeNumbers → Packet → Type 0
+IsForHost n k = IsTrue (has_packet n k) × (k.dest ≡ dest.Host)
+
+-- what holds of each link: to the host it carries packets for the host alone
+pub record GoodLink (n : ShapeNumbers) (q : ℕ) (x : LinkView) : Type 0 where
+  pub home : HomeLink n q x
+  pub host : leads_to_host n (kind_of n q) ≡ true → AllByRecursion (IsForHost n) x.packets
+
 -- what holds of each part, which has this number
 abbrev pub GoodPart : ShapeNumbers → List Table → ℕ → PartView → Type 0
 GoodPart n tables p (TileV v) = GoodTile n p v
 GoodPart n tables p (RouterV v) = GoodRouter n tables v
-GoodPart n tables p (LinkV x) = HomeLink n p x
+GoodPart n tables p (LinkV x) = GoodLink n p x
+GoodPart n tables p (HostV s) = AllByRecursion (IsSendable n) s.script
 GoodPart n tables p AbsentV = Unit {0}
 
 -- a part stands at a place of its kind
@@ -95,22 +139,27 @@ abbrev pub StandsAt : Kind → PartView → Type 0
 StandsAt (kind.Tile tile) (TileV v) = v.plan.tile ≡ tile.0
 StandsAt (kind.Tile tile) (RouterV v) = ⊥
 StandsAt (kind.Tile tile) (LinkV x) = ⊥
+StandsAt (kind.Tile tile) (HostV s) = ⊥
 StandsAt (kind.Tile tile) AbsentV = ⊥
 StandsAt (kind.Router board) (TileV v) = ⊥
 StandsAt (kind.Router board) (RouterV v) = v.plan.board ≡ board
 StandsAt (kind.Router board) (LinkV x) = ⊥
+StandsAt (kind.Router board) (HostV s) = ⊥
 StandsAt (kind.Router board) AbsentV = ⊥
 StandsAt (kind.Link from onto) (TileV v) = ⊥
 StandsAt (kind.Link from onto) (RouterV v) = ⊥
 StandsAt (kind.Link from onto) (LinkV x) = Unit {0}
+StandsAt (kind.Link from onto) (HostV s) = ⊥
 StandsAt (kind.Link from onto) AbsentV = ⊥
 StandsAt kind.Host (TileV v) = ⊥
 StandsAt kind.Host (RouterV v) = ⊥
 StandsAt kind.Host (LinkV x) = ⊥
-StandsAt kind.Host AbsentV = Unit {0}
+StandsAt kind.Host (HostV s) = Unit {0}
+StandsAt kind.Host AbsentV = ⊥
 StandsAt kind.Detector (TileV v) = ⊥
 StandsAt kind.Detector (RouterV v) = ⊥
 StandsAt kind.Detector (LinkV x) = ⊥
+StandsAt kind.Detector (HostV s) = ⊥
 StandsAt kind.Detector AbsentV = Unit {0}
 
 -- part p of the machine is this one
@@ -234,6 +283,18 @@ code_stays w p v new on e b = elim (cases_eq (part_for w b) p) [
   | inr far ↦ ap (λ (t : TileView). t.plan.code) (tile_other w p new b far)
   | inl near ↦ ap (λ (t : TileView). t.plan.code) (tile_here w p new b on.within near) ∙ (e ∙ sym (ap (λ (t : TileView). t.plan.code) (tile_is w p v b on near)))
 ]
+
+-- the host stays where another part changes, and where a part that is no host does
+pub host_stays : (w : WorldView) (p : ℕ) (old new : PartView) → OnPart w p old → host_in new ≡ host_in old → host_on (with_part w p new) ≡ host_on w
+host_stays w p old new on same = elim (cases_eq 0 p) [
+  | inl e ↦
+      ap (λ i. host_in (get_or (set w.parts p new) i AbsentV)) e
+      ∙ (ap host_in (get_or-set_same w.parts p new AbsentV on.within) ∙ (same ∙ sym (ap (λ i. host_in (get_or w.parts i AbsentV)) e ∙ ap host_in on.is)))
+  | inr ne ↦ ap host_in (get_or-set_other w.parts p 0 new AbsentV ne)
+]
+
+pub host_beside : (w : WorldView) (p : ℕ) (v new : TileView) → On w p v → host_on w ≡ host_on (with_tile w p new)
+host_beside w p v new on = sym (host_stays w p (TileV v) (TileV new) on refl)
 
 -- ---- another part in a place
 

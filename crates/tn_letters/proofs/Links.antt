@@ -17,8 +17,8 @@ use Rattle.tn_rows.specs.WorldView.{WorldView}
 use Rattle.tn_letters.specs.Law.{dropped_in, dropped_on}
 use Rattle.tn_letters.specs.Standing.{standing_letters}
 use Rattle.tn_letters.specs.State.{Agree}
-use Rattle.tn_letters.specs.Tiles.{beats_on, held_in, held_of, no_tile, part_for, program_of, reach_of, tables_of, thread_in, thread_of, tile_for, tile_in}
-use Rattle.tn_letters.proofs.Lift.{Good, GoodPart, HomeLink, OnLink, OnPart, StandsAt, good_with, part_changes, reach_stays, stands_on, tables_stay}
+use Rattle.tn_letters.specs.Tiles.{beats_on, held_in, held_of, no_tile, host_in, host_on, part_for, program_of, reach_of, tables_of, thread_in, thread_of, tile_for, tile_in}
+use Rattle.tn_letters.proofs.Lift.{Good, GoodLink, GoodPart, OnLink, OnPart, StandsAt, good_with, host_stays, part_changes, reach_stays, stands_on, tables_stay}
 use Rattle.tn_letters.proofs.Weights.{link_w, part_w}
 
 -- a part is no tile, so no letter is dropped there
@@ -91,7 +91,7 @@ still_link (kind.Router board) x y h = absurd h
 still_link (kind.Link from onto) x y h = tt
 still_link kind.Detector x y h = absurd h
 
-pub link_shifts : (w : WorldView) (q : ℕ) (x y : LinkView) (came gone : (Letter → ℕ) → ℕ) → Good w → OnLink w q x → HomeLink w.shape q y →
+pub link_shifts : (w : WorldView) (q : ℕ) (x y : LinkView) (came gone : (Letter → ℕ) → ℕ) → Good w → OnLink w q x → GoodLink w.shape q y →
     ((f : Letter → ℕ) → came f + link_w f (link_board w.shape q) w.shape (reach_of w) x ≡ gone f + link_w f (link_board w.shape q) w.shape (reach_of w) y) → Shifts w q (LinkV x) (LinkV y) came gone
 link_shifts w q x y came gone good on home weighs = record {
   on = on;
@@ -148,3 +148,9 @@ both_shifted w p q low high new next came gone good apart a b there is =
       program = second.program ∙ first.program;
       count = second.count ∙ first.count;
     })
+
+-- nor does it change the host, if both parts show the host that they showed
+pub both_host : (w : WorldView) (p q : ℕ) (low high new next : PartView) (there : WorldView) → q ≢ p → OnPart w p low → OnPart w q high → host_in new ≡ host_in low → host_in next ≡ host_in high →
+    there ≡ with_part (with_part w p new) q next → host_on w ≡ host_on there
+both_host w p q low high new next there apart on off same_low same_high is =
+    sym (ap host_on is ∙ (host_stays (with_part w p new) q high next (beside w p q new high apart off) same_high ∙ host_stays w p low new on same_low))

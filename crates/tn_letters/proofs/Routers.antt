@@ -43,29 +43,31 @@ use Rattle.tn_rows.specs.WorldView.{WorldView}
 use Rattle.tn_rows.proofs.Meeting.{mapped, met_rows}
 use Rattle.tn_letters.specs.Letters.{link_board}
 use Rattle.tn_letters.specs.State.{Program}
-use Rattle.tn_letters.specs.Tiles.{reach_of, tables_of}
+use Rattle.tn_letters.specs.Tiles.{host_on, reach_of, tables_of}
 use Rattle.tn_letters.proofs.Becomes.{Becomes, becomes_reached, nothing}
 use Rattle.tn_letters.proofs.Copies.{out_weighs, started_weighs}
 use Rattle.tn_letters.proofs.Crossings.{home_put, home_take, put_more, take_less}
-use Rattle.tn_letters.proofs.Lift.{Good, GoodRouter, Homed, OnLink, OnRouter, StandsAt, leads_to_tile, part_on, stands_on}
-use Rattle.tn_letters.proofs.Links.{Shifted, Shifts, both_shifted, link_shifts, shifted, two_parts}
+use Rattle.tn_letters.proofs.Lift.{ForHost, Good, GoodRouter, Homed, HostWay, IsForHost, OnLink, OnRouter, StandsAt, host_stays, leads_to_host, leads_to_tile, part_on, stands_on}
+use Rattle.tn_letters.proofs.HostWays.{at_host, host_moved, host_set, no_packet}
+use Rattle.tn_letters.proofs.Links.{Shifted, Shifts, both_host, both_shifted, link_shifts, shifted, two_parts}
 use Rattle.tn_letters.proofs.Moves.{moves_so, outs_set, port_there, route_weighs, works_set}
 use Rattle.tn_letters.proofs.Simulate.{Reached}
 use Rattle.tn_letters.proofs.Weights.{crossing_w, out_w, outs_w, router_w, work_w, works_w}
 
 -- a machine in which letters moved and no thread did anything
-still_becomes : (w there : WorldView) → Shifted w there nothing nothing → Becomes w there []
-still_becomes w there s = record {
+still_becomes : (w there : WorldView) → Shifted w there nothing nothing → host_on w ≡ host_on there → Becomes w there []
+still_becomes w there s host = record {
   threads = s.threads;
   held = λ b slot h. s.held b slot;
   letters = λ f. let a = s.letters f in omega arith;
   good = s.good;
   program = s.program;
   count = let c = s.count in omega arith;
+  host = host;
 }
 
-pub still_reached : (got : ℕ → List Letter) (dropped : List Letter) (w there : WorldView) → Shifted w there nothing nothing → Reached got dropped w [] there
-still_reached got dropped w there s = becomes_reached got dropped w there [] (ap (λ (m : Program). m.shape) s.program) (still_becomes w there s) tt
+pub still_reached : (got : ℕ → List Letter) (dropped : List Letter) (w there : WorldView) → Shifted w there nothing nothing → host_on w ≡ host_on there → Reached got dropped w [] there
+still_reached got dropped w there s host = becomes_reached got dropped w there [] (ap (λ (m : Program). m.shape) s.program) (still_becomes w there s host) tt
 
 router_on : (w : WorldView) (p : ℕ) (v : RouterView) → Good w → OnRouter w p v → GoodRouter w.shape (tables_of w) v
 router_on w p v good on = part_on w p (RouterV v) good on
@@ -77,9 +79,9 @@ still_router (kind.Router board) v new h = h
 still_router (kind.Link from onto) v new h = absurd h
 still_router kind.Detector v new h = absurd h
 
-router_shifts : (w : WorldView) (p : ℕ) (v : RouterView) (new : RouterState) (came gone : (Letter → ℕ) → ℕ) → Good w → OnRouter w p v → IsFit v.plan new →
+router_shifts : (w : WorldView) (p : ℕ) (v : RouterView) (new : RouterState) (came gone : (Letter → ℕ) → ℕ) → Good w → OnRouter w p v → IsFit v.plan new → HostWay new.node.out →
     ((f : Letter → ℕ) → came f + router_w f (reach_of w) v ≡ gone f + router_w f (reach_of w) (with_now v new)) → Shifts w p (RouterV v) (RouterV (with_now v new)) came gone
-router_shifts w p v new came gone good on fits weighs =
+router_shifts w p v new came gone good on fits host weighs =
     let t = router_on w p v good on in
     record {
       on = on;
@@ -87,7 +89,7 @@ router_shifts w p v new came gone good on fits weighs =
       is = record { tile = refl; dropped = refl };
       beats = refl;
       stands = still_router (kind_of w.shape p) v new (stands_on w p (RouterV v) good on);
-      good = record { shape = t.shape; shaped = record { board = t.shaped.board; fits = fits }; beats = t.beats };
+      good = record { shape = t.shape; shaped = record { board = t.shaped.board; fits = fits }; beats = t.beats; host = host };
       weighs = weighs;
     }
 
@@ -103,10 +105,10 @@ route_reached got dropped w p v new good on row =
     let m = did_move v.now new (first_move v.plan v.now) row in
     let so = moves_so v.plan v.now m.0 m.1 in
     let fits : IsFit v.plan (moved v.now m.0) = carried_shaped v.plan v.now m.0 (placed_fits v.plan v.now so.side so.work m.0 t.shaped.board t.shaped.fits so.there so.is) t.shaped.fits in
-    let s : Shifts w p (RouterV v) (RouterV (with_now v (moved v.now m.0))) nothing nothing = router_shifts w p v (moved v.now m.0) nothing nothing good on fits
+    let s : Shifts w p (RouterV v) (RouterV (with_now v (moved v.now m.0))) nothing nothing = router_shifts w p v (moved v.now m.0) nothing nothing good on fits (host_moved v.plan v.now so.side so.work m.0 so.is t.host)
     (λ f. let e = route_weighs f w.shape (tables_of w) v m.0 t.shape good.limits good.accepted t.shaped t.beats so in omega arith) in
     subst (λ (x : RouterState). Reached got dropped w [] (with_part w p (RouterV (with_now v x)))) m.2
-    (still_reached got dropped w (with_part w p (RouterV (with_now v (moved v.now m.0)))) (shifted w p (RouterV v) (RouterV (with_now v (moved v.now m.0))) nothing nothing good s))
+    (still_reached got dropped w (with_part w p (RouterV (with_now v (moved v.now m.0)))) (shifted w p (RouterV v) (RouterV (with_now v (moved v.now m.0))) nothing nothing good s) (sym (host_stays w p (RouterV v) (RouterV (with_now v (moved v.now m.0))) on refl)))
 
 -- ---- rows of both parts
 
@@ -149,15 +151,15 @@ keyed_leads true false e h = cc e
 keyed_leads false c e h = cc h
 
 depart_reached : (got : ℕ → List Letter) (dropped : List Letter) (w : WorldView) (p q : ℕ) (v : RouterView) (new : RouterState) (x y : LinkView) (way : Port) (k : Packet) (there : WorldView) → Good w → OnRouter w p v → OnLink w q x → LeadsTo v way (link_board w.shape q) →
-    (leads_to_tile w.shape (kind_of w.shape q) ≡ true → leads_on way ≡ false) → offered way v.now.node ≡ Some k → depart_row way v.now ≡ Some new → put_in k x ≡ Some y → there ≡ with_part (with_part w p (RouterV (with_now v new))) q (LinkV y) → Reached got dropped w [] there
-depart_reached got dropped w p q v new x y way k there good on off leads down offer row put is =
+    (leads_to_tile w.shape (kind_of w.shape q) ≡ true → leads_on way ≡ false) → (leads_to_host w.shape (kind_of w.shape q) ≡ true → way ≡ port.HostPort) → offered way v.now.node ≡ Some k → depart_row way v.now ≡ Some new → put_in k x ≡ Some y → there ≡ with_part (with_part w p (RouterV (with_now v new))) q (LinkV y) → Reached got dropped w [] there
+depart_reached got dropped w p q v new x y way k there good on off leads down to_host offer row put is =
     let t = router_on w p v good on in
     let n : ShapeNumbers = v.plan.shape in
     let here : at way v.now.node.out ≡ Some k = not_held v.now.node.held (at way v.now.node.out) k offer in
     let fits : FitsWay n v.plan.board way k = subst (λ (o : Option Packet). MatchOption o (Unit {0}) (FitsWay n v.plan.board way)) here (t.shaped.fits.waits way) in
     let d = depart_deed way v.now new row in
     let shaped : IsFit v.plan new = depart_shaped v.plan way v.now new t.shaped.fits row in
-    let low : Shifts w p (RouterV v) (RouterV (with_now v new)) nothing (on_link w q k) = router_shifts w p v new nothing (on_link w q k) good on shaped
+    let low : Shifts w p (RouterV v) (RouterV (with_now v new)) nothing (on_link w q k) = router_shifts w p v new nothing (on_link w q k) good on shaped (subst HostWay (sym d.out) (host_set way None v.now.node.out (no_packet way) t.host))
     (λ f.
     let set = outs_set f (reach_of w) n v.plan.board way None v.now.node.out (port_there way v.now.node.out k here) in
     let out : outs_w f (reach_of w) n v.plan.board new.node.out ≡ outs_w f (reach_of w) n v.plan.board (with_at way None v.now.node.out) = ap (outs_w f (reach_of w) n v.plan.board) d.out in
@@ -167,28 +169,31 @@ depart_reached got dropped w p q v new x y way k there good on off leads down of
     let shape : crossing_w f (link_board w.shape q) n (reach_of w) k ≡ on_link w q k f = ap (λ m. crossing_w f (link_board w.shape q) m (reach_of w) k) t.shape in
     omega arith) in
     let home : leads_to_tile w.shape (kind_of w.shape q) ≡ true → Homed (link_board w.shape q) k = λ tile keyed. absurd (no_both (leads_on way) (keyed_leads (is_keyed k.dest) (leads_on way) fits.1 keyed) (down tile)) in
-    let high : Shifts w q (LinkV x) (LinkV y) (on_link w q k) nothing = link_shifts w q x y (on_link w q k) nothing good off (home_put w.shape q k x y put (part_on w q (LinkV x) good off) home)
+    let packet : IsTrue (has_packet w.shape k) = subst (λ m. IsTrue (has_packet m k)) t.shape fits.0 in
+    let for_host : leads_to_host w.shape (kind_of w.shape q) ≡ true → IsForHost w.shape k = λ host. (packet, at_host way k (to_host host) (subst (ForHost way) here (t.host way))) in
+    let high : Shifts w q (LinkV x) (LinkV y) (on_link w q k) nothing = link_shifts w q x y (on_link w q k) nothing good off (home_put w.shape q k x y put (part_on w q (LinkV x) good off) home for_host)
     (λ f. let more = put_more f (link_board w.shape q) w.shape (reach_of w) k x y put in omega arith) in
     still_reached got dropped w there
     (both_shifted w p q (RouterV v) (LinkV x) (RouterV (with_now v new)) (LinkV y) nothing (on_link w q k) good (two_parts w p q (RouterV v) (LinkV x) on off (λ e. cc e)) low high there is)
+    (both_host w p q (RouterV v) (LinkV x) (RouterV (with_now v new)) (LinkV y) there (two_parts w p q (RouterV v) (LinkV x) on off (λ e. cc e)) on off refl refl is)
   where
     no_both : (b : Bool) → b ≡ true → b ≡ false → ⊥
     no_both b e f = cc (e, f)
 
 depart_by : (got : ℕ → List Letter) (dropped : List Letter) (w : WorldView) (p q : ℕ) (v : RouterView) (x : LinkView) (m : Met) (here there : PartId) (o : Option Packet) → Good w → OnRouter w p v → OnLink w q x → LeadsTo v (link_way v.plan.shape there.0) (link_board w.shape q) →
-    (leads_to_tile w.shape (kind_of w.shape q) ≡ true → leads_on (link_way v.plan.shape there.0) ≡ false) → offered (link_way v.plan.shape there.0) v.now.node ≡ o →
+    (leads_to_tile w.shape (kind_of w.shape q) ≡ true → leads_on (link_way v.plan.shape there.0) ≡ false) → (leads_to_host w.shape (kind_of w.shape q) ≡ true → link_way v.plan.shape there.0 ≡ port.HostPort) → offered (link_way v.plan.shape there.0) v.now.node ≡ o →
     met_with (event.Depart here there) (RouterV v) (LinkV x) (option_map crossing.Packet o) ≡ Some m → Reached got dropped w [] (with_both w p q m)
-depart_by got dropped w p q v x m here there None good on off leads down offer is = cc is
-depart_by got dropped w p q v x m here there (Some k) good on off leads down offer is =
+depart_by got dropped w p q v x m here there None good on off leads down to_host offer is = cc is
+depart_by got dropped w p q v x m here there (Some k) good on off leads down to_host offer is =
     let way : Port = link_way v.plan.shape there.0 in
     let b = both_rows v (option_map (with_node v.now) (give_row way k v.now.node)) (put_in k x) m is in
     let row : depart_row way v.now ≡ Some b.new = sym (ap (λ o. option_map (with_node v.now) o) (given way k v.now.node offer)) ∙ b.router in
-    depart_reached got dropped w p q v b.new x b.next way k (with_both w p q m) good on off leads down offer row b.link (pair_is w p q (with_now v b.new) b.next m b.low b.high)
+    depart_reached got dropped w p q v b.new x b.next way k (with_both w p q m) good on off leads down to_host offer row b.link (pair_is w p q (with_now v b.new) b.next m b.low b.high)
 
 pub departure_reached : (got : ℕ → List Letter) (dropped : List Letter) (w : WorldView) (p q : ℕ) (v : RouterView) (x : LinkView) (m : Met) (here there : PartId) → Good w → OnRouter w p v → OnLink w q x → LeadsTo v (link_way v.plan.shape there.0) (link_board w.shape q) →
-    (leads_to_tile w.shape (kind_of w.shape q) ≡ true → leads_on (link_way v.plan.shape there.0) ≡ false) →
+    (leads_to_tile w.shape (kind_of w.shape q) ≡ true → leads_on (link_way v.plan.shape there.0) ≡ false) → (leads_to_host w.shape (kind_of w.shape q) ≡ true → link_way v.plan.shape there.0 ≡ port.HostPort) →
     met_with (event.Depart here there) (RouterV v) (LinkV x) (option_map crossing.Packet (offered (link_way v.plan.shape there.0) v.now.node)) ≡ Some m → Reached got dropped w [] (with_both w p q m)
-departure_reached got dropped w p q v x m here there good on off leads down is = depart_by got dropped w p q v x m here there (offered (link_way v.plan.shape there.0) v.now.node) good on off leads down refl is
+departure_reached got dropped w p q v x m here there good on off leads down to_host is = depart_by got dropped w p q v x m here there (offered (link_way v.plan.shape there.0) v.now.node) good on off leads down to_host refl is
 
 -- ---- an arrival
 
@@ -208,7 +213,7 @@ arrive_reached got dropped w p q v new x y side k there good on off board front 
     let a = accepts v.plan side k v.now (ap (λ (o : Option RouterState). is_some o) row) in
     let d = accept_deed v.plan side k v.now new row in
     let shaped : IsFit v.plan new = accept_shaped v.plan side k v.now new t.shaped.fits row in
-    let low : Shifts w p (RouterV v) (RouterV (with_now v new)) (on_link w q k) nothing = router_shifts w p v new (on_link w q k) nothing good on shaped
+    let low : Shifts w p (RouterV v) (RouterV (with_now v new)) (on_link w q k) nothing = router_shifts w p v new (on_link w q k) nothing good on shaped (subst HostWay (sym d.out) t.host)
     (λ f.
     let set = works_set f (reach_of w) n v.plan.board v.plan.beats side (Some (started v.plan.beats k)) v.now.inputs (side_is side n v.plan.board a.there) in
     let out : outs_w f (reach_of w) n v.plan.board new.node.out ≡ outs_w f (reach_of w) n v.plan.board v.now.node.out = ap (outs_w f (reach_of w) n v.plan.board) d.out in
@@ -218,10 +223,11 @@ arrive_reached got dropped w p q v new x y side k there good on off board front 
     let shape : crossing_w f v.plan.board n (reach_of w) k ≡ on_link w q k f = ap (λ m. crossing_w f v.plan.board m (reach_of w) k) t.shape ∙ ap (λ (c : Board). crossing_w f c w.shape (reach_of w) k) (sym board) in
     omega arith) in
     let homes = home_take w.shape q k x y front take (part_on w q (LinkV x) good off) in
-    let high : Shifts w q (LinkV x) (LinkV y) nothing (on_link w q k) = link_shifts w q x y nothing (on_link w q k) good off homes.1
+    let high : Shifts w q (LinkV x) (LinkV y) nothing (on_link w q k) = link_shifts w q x y nothing (on_link w q k) good off homes.good
     (λ f. let less = take_less f (link_board w.shape q) w.shape (reach_of w) k x y front take in omega arith) in
     still_reached got dropped w there
     (both_shifted w p q (RouterV v) (LinkV x) (RouterV (with_now v new)) (LinkV y) (on_link w q k) nothing good (two_parts w p q (RouterV v) (LinkV x) on off (λ e. cc e)) low high there is)
+    (both_host w p q (RouterV v) (LinkV x) (RouterV (with_now v new)) (LinkV y) there (two_parts w p q (RouterV v) (LinkV x) on off (λ e. cc e)) on off refl refl is)
   where
     came_weighs : (f : Letter → ℕ) (w : WorldView) (v : RouterView) (k : Packet) → Good w → GoodRouter w.shape (tables_of w) v → IsTrue (has_packet v.plan.shape k) → work_w f (reach_of w) v.plan.shape v.plan.board v.plan.beats (Some (started v.plan.beats k)) ≡ crossing_w f v.plan.board v.plan.shape (reach_of w) k
     came_weighs f w v k good t fits =

@@ -23,6 +23,7 @@ use Rattle.tn_tile.proofs.Packed.{few_places}
 use Rattle.tn_tile.proofs.Moved.{next_fits, step_fits}
 use Rattle.tn_rows.specs.PartView.{TileV, AbsentV}
 use Rattle.tn_rows.specs.WorldView.{WorldView}
+use Rattle.tn_host.specs.HostView.{HostState}
 use Rattle.tn_letters.specs.declared.steps.BagStep.{BagStep}
 use Rattle.tn_letters.specs.declared.steps.Seen.{Seen}
 use Rattle.tn_letters.specs.Law.{dropped_in, dropped_on}
@@ -33,7 +34,7 @@ use Rattle.tn_letters.specs.State.{Agree, BagState, put}
 use Rattle.tn_letters.specs.Steps.{seen_at}
 use Rattle.tn_letters.specs.Tiles.{held_in, letter_in, part_for, program_of, reach_of, thread_in, thread_of, tile_for}
 use Rattle.tn_letters.proofs.Homes.{home_same}
-use Rattle.tn_letters.proofs.Lift.{Good, GoodTile, On, Stands, good_lift, good_now, lift_put, lift_same, part_is, place_within, program_stays, tile_is, tile_on, tile_stands, with_tile}
+use Rattle.tn_letters.proofs.Lift.{Good, GoodTile, On, Stands, good_lift, good_now, host_beside, lift_put, lift_same, part_is, place_within, program_stays, tile_is, tile_on, tile_stands, with_tile}
 use Rattle.tn_letters.proofs.Runs.{same_refl}
 use Rattle.tn_letters.proofs.Slots.{taken_w}
 use Rattle.tn_letters.proofs.Weights.{same_bag, tile_w}
@@ -241,9 +242,9 @@ plain got dropped w p a k v new step c happens fits threads pool drops pending n
           got = λ b h. refl;
           held = λ b slot h. ap (λ (x : ℕ → Option Letter). x slot) (lift_same held_in w p v (with_now v new) c.on (λ j u. holds j) b h);
           dropped = refl;
-          host = refl;
-          script = refl;
-          host_sends = refl;
+          host = ap (λ (h : HostState). h.got) (host_beside w p v (with_now v new) c.on);
+          script = ap (λ (h : HostState). h.script) (host_beside w p v (with_now v new) c.on);
+          host_sends = ap (λ (h : HostState). h.sends) (host_beside w p v (with_now v new) c.on);
           announcements = refl;
         },
       );

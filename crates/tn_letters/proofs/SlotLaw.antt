@@ -21,8 +21,8 @@ use Rattle.tn_node.specs.declared.node.Node.{Node}
 use Rattle.tn_node.specs.Deed.{Deed}
 use Rattle.tn_node.specs.Deed as deed
 use Rattle.tn_node.specs.NodeRows.{give_row, waits}
-use Rattle.tn_rows.specs.Events.{after, deed_of, happened, happened_at, link_row, meets, meets_at, router_row, tile_did, tile_row, with_both, with_part}
-use Rattle.tn_rows.specs.PartView.{PartView, TileV, RouterV, LinkV, AbsentV}
+use Rattle.tn_rows.specs.Events.{after, deed_of, happened, happened_at, host_row, link_row, meets, meets_at, router_row, tile_did, tile_row, with_both, with_part}
+use Rattle.tn_rows.specs.PartView.{PartView, TileV, RouterV, LinkV, HostV, AbsentV}
 use Rattle.tn_rows.specs.Places.{Places, Nowhere, One, Two, places}
 use Rattle.tn_rows.specs.Runs.{Walk}
 use Rattle.tn_rows.specs.WorldView.{WorldView}
@@ -37,9 +37,10 @@ use Rattle.tn_stamp.specs.declared.entry.Crossing.TheVariants as crossing
 use Rattle.tn_thread.specs.declared.thread.Thread.{Thread}
 use Rattle.tn_tile.specs.declared.state.TileState.{TileState}
 use Rattle.tn_tile.specs.Receivers.{alive_of, receivers}
-use Rattle.tn_tile.specs.Rows.{accepted, came, delivered_from, passed, passed_by, received, stored, stored_at, with_node}
+use Rattle.tn_tile.specs.Rows.{accepted, came, delivered_from, gone_on, passed, passed_by, received, released, stored, stored_at, tile_whitened, with_node}
 use Rattle.tn_tile.specs.Step.{acted, can_step, step_at_place, stepped, steps_of, thread_at, with_thread}
 use Rattle.tn_tile.specs.TileView.{TilePlan, TileView, with_now}
+use Rattle.tn_tile.proofs.Deeds.{confirm_deed, go_deed, release_deed, report_deed}
 use Rattle.tn_tile.proofs.Steps.{taken}
 use Rattle.tn_letters.specs.SlotLaw.{IsUsed, KeepsSlot, UsedAll, tile_on}
 use Rattle.tn_letters.specs.Tiles.{tile_in}
@@ -220,6 +221,14 @@ deed_kept plan j (Some (deed.Deliver t)) old new used e = delivered_kept plan _ 
 deed_kept plan j (Some (deed.Give way k)) old new used e = node_kept plan j (give_row way k old.node) old new e
 deed_kept plan j (Some (deed.Take side k)) old new used e = accepted_kept plan j k old new used (taken _ (option_map came (accepted plan k old)) new e).1
 deed_kept plan j (Some deed.Route) old new used e = cc e
+deed_kept plan j (Some (deed.HostPut k)) old new used e = cc e
+deed_kept plan j (Some (deed.HostTake k)) old new used e = cc e
+deed_kept plan j (Some (deed.Report i f)) old new used e = subst (λ (x : TileState). Kept plan j old x) (sym (report_deed plan i f old new e).is) (by_slots plan j old (tile_whitened old) refl (slot_same (slot_at old.pool j)))
+deed_kept plan j (Some deed.Begin) old new used e = cc e
+deed_kept plan j (Some (deed.Confirm i f)) old new used e = subst (λ (x : TileState). Kept plan j old x) (sym (confirm_deed plan i f old new e).is) (by_slots plan j old old refl (slot_same (slot_at old.pool j)))
+deed_kept plan j (Some deed.Announce) old new used e = cc e
+deed_kept plan j (Some (deed.Release i f)) old new used e = subst (λ (x : TileState). Kept plan j old x) (sym (release_deed plan i f old new e).is) (by_slots plan j old (released f.value old) refl (slot_same (slot_at old.pool j)))
+deed_kept plan j (Some (deed.Go i f)) old new used e = subst (λ (x : TileState). Kept plan j old x) (sym (go_deed plan i f old new e).is) (by_slots plan j old (gone_on old) refl (slot_same (slot_at old.pool j)))
 
 after_kept : (e : Event) (c : Crossing) (j : ℕ) (old new : PartView) → after e c old ≡ Some new → IsUsed j (tile_in old) → KeepsSlot j (tile_in old) (tile_in new)
 after_kept e c j (TileV v) new h used =
@@ -232,6 +241,9 @@ after_kept e c j (RouterV v) new h used =
 after_kept e c j (LinkV v) new h used =
     let m = mapped LinkV (link_row e c v) new h in
     subst (λ (x : PartView). KeepsSlot j (tile_in (LinkV v)) (tile_in x)) m.2 (same_kept (tile_in (LinkV v)) j)
+after_kept e c j (HostV s) new h used =
+    let m = mapped HostV (host_row e c s) new h in
+    subst (λ (x : PartView). KeepsSlot j (tile_in (HostV s)) (tile_in x)) m.2 (same_kept (tile_in (HostV s)) j)
 after_kept e c j AbsentV new h used = cc h
 
 -- ---- an event on a machine

@@ -15,6 +15,7 @@ use Rattle.tn_base.specs.declared.port.Port.{Port}
 use Rattle.tn_base.specs.declared.port.Port.TheVariants as port
 use Rattle.tn_base.proofs.Listing.{mapped_at}
 use Rattle.tn_keys.specs.Tables.{HasBoard, Table, board_place, table_of}
+use Rattle.tn_host.specs.HostView.{HostState}
 use Rattle.tn_link.specs.LinkView.{LinkView}
 use Rattle.tn_node.specs.PortRows.{at, no_values}
 use Rattle.tn_router.specs.Kept.{FitsSide, FitsWay, WellShaped as RouterShaped, fresh_router}
@@ -36,11 +37,11 @@ use Rattle.tn_tile.specs.TileView.{TileView}
 use Rattle.tn_tile.proofs.Fresh.{fresh_shaped}
 use Rattle.tn_tile.proofs.Packed.{few_places}
 use Rattle.tn_rows.specs.Events.{FitsKind}
-use Rattle.tn_rows.specs.PartView.{PartView, TileV, RouterV, LinkV, AbsentV}
+use Rattle.tn_rows.specs.PartView.{PartView, TileV, RouterV, LinkV, HostV, AbsentV}
 use Rattle.tn_rows.specs.Runs.{Run}
 use Rattle.tn_rows.specs.WorldView.{WorldView}
-use Rattle.tn_letters.specs.Law.{IsBagRun, IsStart, StartsSo, dropped_on}
-use Rattle.tn_letters.proofs.Lift.{Good, GoodPart, GoodRouter, GoodTile, HomeTile, Homed, On, OnPart, StandsAt}
+use Rattle.tn_letters.specs.Law.{IsBagRun, IsSendable, IsStart, StartsSo, dropped_on}
+use Rattle.tn_letters.proofs.Lift.{Good, GoodPart, GoodRouter, GoodTile, HomeTile, Homed, HostWay, IsForHost, On, OnPart, StandsAt}
 use Rattle.tn_letters.proofs.PartKinds.{RouterPart, TilePart, router_part_is, tile_part_is}
 use Rattle.tn_letters.specs.State.{Program}
 use Rattle.tn_letters.proofs.Simulate.{shown}
@@ -80,6 +81,16 @@ all_none P port.Up = tt
 all_none P port.Down = tt
 all_none P port.HostPort = tt
 all_none P port.Here = tt
+
+none_to_host : HostWay no_values
+none_to_host port.East = tt
+none_to_host port.West = tt
+none_to_host port.South = tt
+none_to_host port.North = tt
+none_to_host port.Up = tt
+none_to_host port.Down = tt
+none_to_host port.HostPort = tt
+none_to_host port.Here = tt
 
 nobody_home : (b : Board) (m : ℕ) → HomeTile b (replicate m None) no_values
 nobody_home b m = record {
@@ -145,6 +156,7 @@ good_router w p v s limits on =
     record {
       shape = f.1;
       shaped = subst (λ (x : RouterView). RouterShaped x) (sym fresh.1) (fresh_shape n v.plan.board fresh.0 board);
+      host = subst (λ (x : RouterView). HostWay x.now.node.out) (sym fresh.1) none_to_host;
       beats = sym (ap (table_of n (tables_of w)) (sym t.is) ∙ (table_there w t.i t.below ∙ (ap (λ i. beats_on (get_or w.parts i AbsentV)) t.part ∙ ap beats_on on.is)));
     }
 
@@ -153,29 +165,40 @@ good_part w p (TileV v) s limits on = good_tile w p v s limits on
 good_part w p (RouterV v) s limits on = good_router w p v s limits on
 good_part w p (LinkV x) s limits on =
     let fresh : StartsSo w.shape (LinkV x) = subst (StartsSo w.shape) on.is (s.parts p on.within) in
-    λ leads. subst (λ (y : LinkView). AllByRecursion (Homed (link_board w.shape p)) y.packets) (sym fresh) tt
+    record {
+      home = λ leads. subst (λ (y : LinkView). AllByRecursion (Homed (link_board w.shape p)) y.packets) (sym fresh) tt;
+      host = λ leads. subst (λ (y : LinkView). AllByRecursion (IsForHost w.shape) y.packets) (sym fresh) tt;
+    }
+good_part w p (HostV s) start limits on =
+    let fresh : StartsSo w.shape (HostV s) = subst (StartsSo w.shape) on.is (start.parts p on.within) in
+    subst (λ (x : HostState). AllByRecursion (IsSendable w.shape) x.script) (sym fresh.2) fresh.1
 good_part w p AbsentV s limits on = tt
 
 fits_at : (n : ShapeNumbers) (k : Kind) (part : PartView) → FitsKind n k part → StandsAt k part
 fits_at n (kind.Tile tile) (TileV v) f = f.1
 fits_at n (kind.Tile tile) (RouterV v) f = f
 fits_at n (kind.Tile tile) (LinkV x) f = f
+fits_at n (kind.Tile tile) (HostV s) f = f
 fits_at n (kind.Tile tile) AbsentV f = f
 fits_at n (kind.Router board) (TileV v) f = f
 fits_at n (kind.Router board) (RouterV v) f = f.1
 fits_at n (kind.Router board) (LinkV x) f = f
+fits_at n (kind.Router board) (HostV s) f = f
 fits_at n (kind.Router board) AbsentV f = f
 fits_at n (kind.Link from onto) (TileV v) f = f
 fits_at n (kind.Link from onto) (RouterV v) f = f
 fits_at n (kind.Link from onto) (LinkV x) f = tt
+fits_at n (kind.Link from onto) (HostV s) f = f
 fits_at n (kind.Link from onto) AbsentV f = f
 fits_at n kind.Host (TileV v) f = f
 fits_at n kind.Host (RouterV v) f = f
 fits_at n kind.Host (LinkV x) f = f
-fits_at n kind.Host AbsentV f = tt
+fits_at n kind.Host (HostV s) f = tt
+fits_at n kind.Host AbsentV f = f
 fits_at n kind.Detector (TileV v) f = f
 fits_at n kind.Detector (RouterV v) f = f
 fits_at n kind.Detector (LinkV x) f = f
+fits_at n kind.Detector (HostV s) f = f
 fits_at n kind.Detector AbsentV f = tt
 
 pub good_start : (w : WorldView) → IsStart w → Good w
@@ -195,6 +218,7 @@ none_dropped : (n : ShapeNumbers) (part : PartView) → StartsSo n part → drop
 none_dropped n (TileV v) s = ap (λ (x : TileView). x.now.dropped) s.3
 none_dropped n (RouterV v) s = refl
 none_dropped n (LinkV v) s = refl
+none_dropped n (HostV h) s = refl
 none_dropped n AbsentV s = refl
 
 sum_nothing : (n : ShapeNumbers) (parts : List PartView) → ((p : ℕ) → p < length parts → StartsSo n (get_or parts p AbsentV)) → sum_by dropped_on parts ≡ 0
@@ -219,6 +243,7 @@ bag_run start history end s run =
         flight = record { each = λ test. refl };
         host = refl;
         script = refl;
+        host_sends = refl;
         dropped = let c = r.count in omega arith;
       };
     }

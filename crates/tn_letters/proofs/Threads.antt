@@ -23,6 +23,7 @@ use Rattle.tn_tile.specs.Step.{can_step, pending_at, step_at_place, thread_at, w
 use Rattle.tn_tile.specs.declared.state.TileState.{TileState}
 use Rattle.tn_tile.specs.TileView.{TileView, with_now}
 use Rattle.tn_rows.specs.WorldView.{WorldView}
+use Rattle.tn_host.specs.HostView.{HostState}
 use Rattle.tn_letters.specs.declared.steps.BagStep.{BagStep}
 use Rattle.tn_letters.specs.declared.steps.BagStep.TheVariants as bag
 use Rattle.tn_letters.specs.Letters.{board_of, letters, packet_letters}
@@ -33,7 +34,7 @@ use Rattle.tn_letters.specs.Steps.{after_step, dropped_by, first_letter, queued,
 use Rattle.tn_letters.specs.Tiles.{held_in, held_of, letter_in, program_of, reach_of, thread_in, thread_of}
 use Rattle.tn_letters.proofs.Holding.{freed_here, freed_others, left_here, left_others, taken_here, taken_others}
 use Rattle.tn_letters.proofs.Homes.{home_sent, tile_board}
-use Rattle.tn_letters.proofs.Lift.{Homed, good_lift, good_now, lift_put, lift_same, program_stays, tile_stands, with_tile}
+use Rattle.tn_letters.proofs.Lift.{Homed, good_lift, good_now, host_beside, lift_put, lift_same, program_stays, tile_stands, with_tile}
 use Rattle.tn_letters.proofs.Runs.{ForDead, discards, run_before, same_refl}
 use Rattle.tn_letters.proofs.Slots.{freed_w, left_w}
 use Rattle.tn_letters.proofs.Sums.{sum_one}
@@ -99,9 +100,9 @@ send_reached got dropped w p a k v to bytes c can e =
           got = λ b h. refl;
           held = λ b slot h. ap (λ (x : ℕ → Option Letter). x slot) (lift_same held_in w p v (with_now v new) c.on (λ j u. refl) b h);
           dropped = refl;
-          host = refl;
-          script = refl;
-          host_sends = refl;
+          host = ap (λ (h : HostState). h.got) (host_beside w p v (with_now v new) c.on);
+          script = ap (λ (h : HostState). h.script) (host_beside w p v (with_now v new) c.on);
+          host_sends = ap (λ (h : HostState). h.sends) (host_beside w p v (with_now v new) c.on);
           announcements = refl;
         },
       );
@@ -145,9 +146,9 @@ free_reached got dropped w p a k v s c can e =
               (freed_here v k s v.now.pool.queues (omega arith) within ∙ ap (λ (x : ℕ → Option Letter). put x s None) (sym mine))
               (λ j u ne. freed_others v k s j v.now.pool.queues (omega arith) (let same = ap tile_threads t.shape in omega arith) ne within) b h);
           dropped = refl;
-          host = refl;
-          script = refl;
-          host_sends = refl;
+          host = ap (λ (h : HostState). h.got) (host_beside w p v (with_now v new) c.on);
+          script = ap (λ (h : HostState). h.script) (host_beside w p v (with_now v new) c.on);
+          host_sends = ap (λ (h : HostState). h.sends) (host_beside w p v (with_now v new) c.on);
           announcements = refl;
         },
       );
@@ -201,9 +202,9 @@ hand_by got dropped w p a k v (s ∷ rest) c can e is some shaped =
               (taken_here v k s (set v.now.pool.queues k rest) (omega arith) within ∙ ap (λ (x : ℕ → Option Letter). put x s (Some l)) (sym mine))
               (λ j u ne. taken_others v k s j (set v.now.pool.queues k rest) (omega arith) ne within) b h);
           dropped = refl;
-          host = refl;
-          script = refl;
-          host_sends = refl;
+          host = ap (λ (h : HostState). h.got) (host_beside w p v (with_now v new) c.on);
+          script = ap (λ (h : HostState). h.script) (host_beside w p v (with_now v new) c.on);
+          host_sends = ap (λ (h : HostState). h.sends) (host_beside w p v (with_now v new) c.on);
           announcements = refl;
         },
       );
@@ -262,9 +263,9 @@ kill_reached got dropped w p a k v value c can e =
                   (left_here v k queues (omega arith))
                   (λ j u ne. left_others v k j queues (omega arith) (let same = ap tile_threads t.shape in omega arith) ne) b h);
               dropped = refl;
-              host = refl;
-              script = refl;
-              host_sends = refl;
+              host = ap (λ (h : HostState). h.got) (host_beside w p v (with_now v new) c.on);
+              script = ap (λ (h : HostState). h.script) (host_beside w p v (with_now v new) c.on);
+              host_sends = ap (λ (h : HostState). h.sends) (host_beside w p v (with_now v new) c.on);
               announcements = refl;
             })
             (discards (program_of w) (shown got dropped there) (queued v k) (standing_letters there) dropped

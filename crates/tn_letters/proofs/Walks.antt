@@ -5,9 +5,11 @@ use Rattle.tn_base.specs.Address.{has_thread, place_in_tile}
 use Rattle.tn_tile.specs.Step.{can_step, pending_at, stepped}
 use Rattle.tn_tile.specs.declared.state.TileState.{TileState}
 use Rattle.tn_tile.specs.TileView.{TileView, now_by, with_now}
+use Rattle.tn_base.specs.declared.port.Port.TheVariants as port
+use Rattle.tn_host.specs.HostView.{HostState}
 use Rattle.tn_link.specs.LinkRows.{front_of}
 use Rattle.tn_link.specs.LinkView.{LinkView}
-use Rattle.tn_rows.specs.PartView.{PartView, TileV, RouterV, LinkV, AbsentV}
+use Rattle.tn_rows.specs.PartView.{PartView, TileV, RouterV, LinkV, HostV, AbsentV}
 use Rattle.tn_rows.specs.WorldView.{WorldView}
 use Rattle.tn_letters.specs.declared.steps.BagStep.{BagStep}
 use Rattle.tn_letters.specs.Machine.{BagRun}
@@ -15,6 +17,7 @@ use Rattle.tn_letters.specs.Steps.{after_step, thread_step}
 use Rattle.tn_letters.specs.Tiles.{program_of, reach_of}
 use Rattle.tn_letters.proofs.Crossings.{arrival_reached, departure_reached}
 use Rattle.tn_letters.proofs.Routers.{LeadsTo, arrival_reached as router_arrival, departure_reached as router_departure, route_reached}
+use Rattle.tn_rows.proofs.HostLinks.{link_from_host, link_to_host}
 use Rattle.tn_rows.proofs.Neighbours.{Near, links_near}
 use Rattle.tn_router.specs.Kept.{leads_on}
 use Rattle.tn_router.specs.Left.{board_on}
@@ -23,14 +26,15 @@ use Rattle.tn_router.specs.RouterView.{RouterView, now_by as router_now_by, with
 use Rattle.tn_base.specs.declared.ids.Board.{Board}
 use Rattle.tn_base.specs.declared.ids.TileId.{TileId}
 use Rattle.tn_letters.specs.Letters.{board_ahead, board_of, kind_board, link_board}
-use Rattle.tn_letters.proofs.Lift.{Good, LeadsOn, On, OnPart, StandsAt, is_tile, leads_to_tile, on_new, part_on, stands_on, tile_on, twice, with_tile}
+use Rattle.tn_letters.proofs.Lift.{Good, LeadsOn, On, OnPart, StandsAt, is_host, is_tile, leads_to_host, leads_to_tile, on_new, part_on, stands_on, tile_on, twice, with_tile}
+use Rattle.tn_letters.proofs.Hosts.{put_reached, router_no_host, router_no_tile, take_reached}
 use Rattle.tn_letters.proofs.Runs.{run_join, same_refl}
 use Rattle.tn_base.specs.declared.ids.PartId.{PartId}
 use Rattle.tn_base.specs.declared.part.Kind.{Kind}
 use Rattle.tn_base.specs.declared.part.Kind.TheVariants as kind
 use Rattle.tn_base.specs.declared.shape.ShapeNumbers.{ShapeNumbers}
-use Rattle.tn_base.specs.Parts.{kind_of, visited}
-use Rattle.std.proofs.Common.{ℕ, ◌≡◌, ◌<◌, ◌&&◌, Bool, true, false, List, [], ◌∷◌, ◌++◌, set, zero, suc, refl, sym, ◌∙◌, ap, subst, arith, Option, Some, None, option_map, unwrap_or, IsTrue}
+use Rattle.tn_base.specs.Parts.{kind_of, link as link_kind, part_count, router_part, visited}
+use Rattle.std.proofs.Common.{ℕ, ◌≡◌, ◌<◌, ◌-◌, ◌&&◌, Bool, true, false, List, [], ◌∷◌, ◌++◌, set, zero, suc, refl, sym, ◌∙◌, ap, subst, arith, Option, Some, None, option_map, unwrap_or, IsTrue}
 use Rattle.std.specs.List.{slice_get}
 use Rattle.std.specs.Prelude.{option_and_then}
 use Rattle.std.proofs.lemmas.List.{set-get_or}
@@ -40,12 +44,12 @@ use Rattle.tn_base.specs.declared.event.Event.TheVariants as event
 use Rattle.tn_tile.specs.Rows.{delivered_from, is_here}
 use Rattle.tn_tile.specs.Step.{steps_of}
 use Rattle.tn_tile.proofs.Steps.{taken}
-use Rattle.tn_rows.specs.Events.{Met, after, carried, crossing_of, deed_of, happened, happened_at, link_row, meets, meets_at, met_with, router_did, tile_did, with_both, with_part}
+use Rattle.tn_rows.specs.Events.{Met, after, carried, crossing_of, deed_of, happened, happened_at, host_row, link_row, meets, meets_at, met_with, router_did, tile_did, with_both, with_part}
 use Rattle.tn_rows.specs.Places.{Places, Nowhere, One, Two, leads_from, leads_to, link_way, places, two_if, way_between, way_of_kind}
 use Rattle.tn_stamp.specs.declared.entry.Crossing.{Crossing}
 use Rattle.tn_stamp.specs.declared.entry.Crossing.TheVariants as crossing
 use Rattle.tn_rows.specs.Runs.{Run}
-use Rattle.tn_letters.specs.Steps.{bag_of, delivery_steps, event_steps, meeting_steps, part_steps, steps_at, taking_steps, tile_steps, turn_steps}
+use Rattle.tn_letters.specs.Steps.{bag_of, delivery_steps, event_steps, meeting_steps, part_steps, put_steps, steps_at, take_steps, taking_steps, tile_steps, turn_steps}
 use Rattle.tn_letters.proofs.Delivery.{delivery_reached}
 use Rattle.tn_letters.proofs.Simulate.{Place, Reached, shown}
 use Rattle.tn_letters.proofs.Threads.{step_reached}
@@ -145,6 +149,22 @@ no_row event.Announce x = refl
 no_row (event.Release p) x = refl
 no_row (event.Go p) x = refl
 
+-- nor has the host
+no_host_row : (e : Event) (s : HostState) → host_row e crossing.None s ≡ None
+no_host_row (event.Turn t n) s = refl
+no_host_row (event.Deliver t) s = refl
+no_host_row (event.Depart p l) s = refl
+no_host_row (event.Arrive l p) s = refl
+no_host_row (event.Route p) s = refl
+no_host_row event.HostPut s = refl
+no_host_row event.HostTake s = refl
+no_host_row (event.Report p) s = refl
+no_host_row event.Begin s = refl
+no_host_row (event.Confirm p) s = refl
+no_host_row event.Announce s = refl
+no_host_row (event.Release p) s = refl
+no_host_row (event.Go p) s = refl
+
 -- ---- an event on one part of the machine
 
 by_row : (got : ℕ → List Letter) (dropped : List Letter) (e : Event) (w new : WorldView) (p : ℕ) (v : TileView) (r : Option TileState) → Good w → On w p v → tile_did v.plan v.now (deed_of v.plan.shape e crossing.None) ≡ r → option_map (with_part w p) (option_map TileV (now_by v r)) ≡ Some new → Reached got dropped w (tile_steps (reach_of w) e v) new
@@ -152,9 +172,9 @@ by_row got dropped e w new p v None good on row is = cc is
 by_row got dropped e w new p v (Some x) good on row is =
     subst (λ (y : WorldView). Reached got dropped w (tile_steps (reach_of w) e v) y) (ap (λ (o : Option WorldView). unwrap_or o new) is) (row_reached got dropped e w p v x good on row)
 
-not_some : (w new : WorldView) (p : ℕ) (r : Option LinkView) → r ≡ None → option_map (with_part w p) (option_map LinkV r) ≡ Some new → ⊥
-not_some w new p None e is = cc is
-not_some w new p (Some x) e is = cc e
+not_some : {X : Type 0} (f : X → PartView) (w new : WorldView) (p : ℕ) (r : Option X) → r ≡ None → option_map (with_part w p) (option_map f r) ≡ Some new → ⊥
+not_some f w new p None e is = cc is
+not_some f w new p (Some x) e is = cc e
 
 -- a router by itself only routes
 route_only : (got : ℕ → List Letter) (dropped : List Letter) (e : Event) (w : WorldView) (p : ℕ) (v : RouterView) (new : RouterState) → Good w → OnPart w p (RouterV v) → router_did v.plan v.now (deed_of v.plan.shape e crossing.None) ≡ Some new → Reached got dropped w [] (with_part w p (RouterV (router_with_now v new)))
@@ -187,7 +207,8 @@ on_read w p part good here =
 by_part : (got : ℕ → List Letter) (dropped : List Letter) (e : Event) (w new : WorldView) (p : ℕ) (q : Option PartView) → Good w → slice_get w.parts p ≡ q → option_map (with_part w p) (option_and_then (after e crossing.None) q) ≡ Some new → Reached got dropped w (part_steps (reach_of w) e q) new
 by_part got dropped e w new p None good here is = cc is
 by_part got dropped e w new p (Some AbsentV) good here is = cc is
-by_part got dropped e w new p (Some (LinkV x)) good here is = absurd (not_some w new p (link_row e crossing.None x) (no_row e x) is)
+by_part got dropped e w new p (Some (LinkV x)) good here is = absurd (not_some LinkV w new p (link_row e crossing.None x) (no_row e x) is)
+by_part got dropped e w new p (Some (HostV s)) good here is = absurd (not_some HostV w new p (host_row e crossing.None s) (no_host_row e s) is)
 by_part got dropped e w new p (Some (RouterV v)) good here is = by_route got dropped e w new p v (router_did v.plan v.now (deed_of v.plan.shape e crossing.None)) good (on_read w p (RouterV v) good here) refl is
 by_part got dropped e w new p (Some (TileV v)) good here is = by_row got dropped e w new p v (tile_did v.plan v.now (deed_of v.plan.shape e crossing.None)) good (on_read w p (TileV v) good here) refl is
 
@@ -211,6 +232,8 @@ pub record ArrivesBy (n : ShapeNumbers) (p q : ℕ) : Type 0 where
 abbrev pub Joined : WorldView → Event → ℕ → ℕ → Type 0
 Joined w (event.Depart here there) p q = (there.0 ≡ q) × DepartsBy w.shape p q
 Joined w (event.Arrive there here) p q = ArrivesBy w.shape p q
+Joined w event.HostPut p q = (p ≡ 0) × (q ≡ part_count w.shape - 2)
+Joined w event.HostTake p q = (p ≡ 0) × (q ≡ part_count w.shape - 3)
 Joined w _ p q = Unit {0}
 
 -- at a link's place stands a link, and at a visited part's none
@@ -287,6 +310,33 @@ router_down : (w : WorldView) (p q : ℕ) (v : RouterView) → Good w → OnPart
 router_down w p q v good on d tile =
     ap leads_on (way_is w p q v good on d) ∙ down_only v.plan.board (kind_of w.shape d.onto.0) (sym (ap (leads_to_tile w.shape) d.is) ∙ tile)
 
+no_host_near : (n : ShapeNumbers) (tile : TileId) (k : Kind) → Near n (kind.Tile tile) k → is_host k ≡ true → ⊥
+no_host_near n tile kind.Host near is = near
+no_host_near n tile (kind.Tile other) near is = cc is
+no_host_near n tile (kind.Router board) near is = cc is
+no_host_near n tile (kind.Link from onto) near is = cc is
+no_host_near n tile kind.Detector near is = cc is
+
+-- no link from a tile leads to the host
+not_to_host : (w : WorldView) (p q : ℕ) (v : TileView) → Good w → On w p v → DepartsBy w.shape p q → leads_to_host w.shape (kind_of w.shape q) ≡ true → ⊥
+not_to_host w p q v good on d host =
+    let n : ShapeNumbers = w.shape in
+    let t = tile_at (kind_of n p) v (stands_on w p (TileV v) good on) in
+    let near : Near n (kind.Tile t.0) (kind_of n d.onto.0) = subst (λ k. Near n k (kind_of n d.onto.0)) (ap (kind_of n) d.at ∙ t.1) (links_near n q d.from d.onto good.limits d.is) in
+    no_host_near n t.0 (kind_of n d.onto.0) near (sym (ap (leads_to_host n) d.is) ∙ host)
+
+host_only : (b : Board) (k : Kind) → is_host k ≡ true → way_between (kind.Router b) k ≡ port.HostPort
+host_only b kind.Host is = refl
+host_only b (kind.Tile tile) is = cc is
+host_only b (kind.Router board) is = cc is
+host_only b (kind.Link from onto) is = cc is
+host_only b kind.Detector is = cc is
+
+-- the link from a router to the host leads away by the way to the host
+router_to_host : (w : WorldView) (p q : ℕ) (v : RouterView) → Good w → OnPart w p (RouterV v) → DepartsBy w.shape p q → leads_to_host w.shape (kind_of w.shape q) ≡ true → link_way w.shape q ≡ port.HostPort
+router_to_host w p q v good on d host =
+    way_is w p q v good on d ∙ host_only v.plan.board (kind_of w.shape d.onto.0) (sym (ap (leads_to_host w.shape) d.is) ∙ host)
+
 tile_arrives : (w : WorldView) (p q : ℕ) (v : TileView) → Good w → On w p v → ArrivesBy w.shape p q → (link_board w.shape q ≡ board_of v.plan.tile) × (leads_to_tile w.shape (kind_of w.shape q) ≡ true)
 tile_arrives w p q v good on d =
     let n : ShapeNumbers = w.shape in
@@ -310,12 +360,14 @@ abbrev IsLink : PartView → Type 0
 IsLink (TileV v) = ⊥
 IsLink (RouterV v) = ⊥
 IsLink (LinkV x) = Unit {0}
+IsLink (HostV s) = ⊥
 IsLink AbsentV = ⊥
 
 link_there : (w : WorldView) (q : ℕ) (from onto : PartId) (part : PartView) → Good w → OnPart w q part → kind_of w.shape q ≡ kind.Link from onto → IsLink part
 link_there w q from onto (LinkV x) good on is = tt
 link_there w q from onto (TileV v) good on is = subst (λ k. StandsAt k (TileV v)) is (stands_on w q (TileV v) good on)
 link_there w q from onto (RouterV v) good on is = subst (λ k. StandsAt k (RouterV v)) is (stands_on w q (RouterV v) good on)
+link_there w q from onto (HostV s) good on is = subst (λ k. StandsAt k (HostV s)) is (stands_on w q (HostV s) good on)
 link_there w q from onto AbsentV good on is = subst (λ k. StandsAt k AbsentV) is (stands_on w q AbsentV good on)
 
 -- the first one is none
@@ -326,21 +378,23 @@ depart_pair : (got : ℕ → List Letter) (dropped : List Letter) (w new : World
     option_map (with_both w p q) (meets (event.Depart here there) low high) ≡ Some new → Reached got dropped w [] new
 depart_pair got dropped w new here there p q (TileV v) (LinkV x) good on off at d link is =
     let m = did_meet w new p q (meets (event.Depart here there) (TileV v) (LinkV x)) is in
-    subst (λ (z : WorldView). Reached got dropped w [] z) m.2 (departure_reached got dropped w p q v x m.0 here there good on off (tile_departs w p q v good on d) m.1)
+    subst (λ (z : WorldView). Reached got dropped w [] z) m.2 (departure_reached got dropped w p q v x m.0 here there good on off (tile_departs w p q v good on d) (not_to_host w p q v good on d) m.1)
 depart_pair got dropped w new here there p q (RouterV v) (LinkV x) good on off at d link is =
     let m = did_meet w new p q (meets (event.Depart here there) (RouterV v) (LinkV x)) is in
     let way : link_way v.plan.shape there.0 ≡ link_way w.shape q = ap (λ n. link_way n there.0) (part_on w p (RouterV v) good on).shape ∙ ap (link_way w.shape) at in
     let leads : LeadsTo v (link_way v.plan.shape there.0) (link_board w.shape q) = λ on_way.
     ap (λ n. board_on n v.plan.board (link_way v.plan.shape there.0)) (part_on w p (RouterV v) good on).shape ∙ (ap (board_on w.shape v.plan.board) way ∙ router_departs w p q v good on d (sym (ap leads_on way) ∙ on_way)) in
     subst (λ (z : WorldView). Reached got dropped w [] z) m.2
-    (router_departure got dropped w p q v x m.0 here there good on off leads (λ tile. ap leads_on way ∙ router_down w p q v good on d tile) m.1)
+    (router_departure got dropped w p q v x m.0 here there good on off leads (λ tile. ap leads_on way ∙ router_down w p q v good on d tile) (λ host. way ∙ router_to_host w p q v good on d host) m.1)
 depart_pair got dropped w new here there p q (LinkV y) (LinkV x) good on off at d link is =
     let low = (good.leads q d.from d.onto d.is).from_visited in
     let from = d.at in
     absurd (no_link w p y good on (omega arith))
+depart_pair got dropped w new here there p q (HostV s) (LinkV x) good on off at d link is = cc is
 depart_pair got dropped w new here there p q AbsentV (LinkV x) good on off at d link is = cc is
 depart_pair got dropped w new here there p q low (TileV u) good on off at d link is = absurd link
 depart_pair got dropped w new here there p q low (RouterV u) good on off at d link is = absurd link
+depart_pair got dropped w new here there p q low (HostV s) good on off at d link is = absurd link
 depart_pair got dropped w new here there p q low AbsentV good on off at d link is = absurd link
 
 arrive_pair : (got : ℕ → List Letter) (dropped : List Letter) (w new : WorldView) (there here : PartId) (p q : ℕ) (low high : PartView) → Good w → OnPart w p low → OnPart w q high → ArrivesBy w.shape p q → IsLink high →
@@ -358,6 +412,13 @@ arrive_pair got dropped w new there here p q (LinkV y) (LinkV x) good on off d l
     let low = (good.leads q d.from d.onto d.is).onto_visited in
     let onto = d.at in
     absurd (no_link w p y good on (omega arith))
+arrive_pair got dropped w new there here p q (HostV s) (LinkV x) good on off d link is = absurd (none_meets w new p q there here s (LinkV x) (option_map crossing.Packet (front_of x)) is)
+  where
+    none_meets : (w new : WorldView) (p q : ℕ) (there here : PartId) (s : HostState) (high : PartView) (c : Option Crossing) → option_map (with_both w p q) (met_with (event.Arrive there here) (HostV s) high c) ≡ Some new → ⊥
+    none_meets w new p q there here s high None is = cc is
+    none_meets w new p q there here s high (Some crossing.None) is = cc is
+    none_meets w new p q there here s high (Some (crossing.Packet k)) is = cc is
+    none_meets w new p q there here s high (Some (crossing.View f)) is = cc is
 arrive_pair got dropped w new there here p q AbsentV (LinkV x) good on off d link is = absurd (none_meets w new p q (event.Arrive there here) (LinkV x) (crossing_of (event.Arrive there here) AbsentV (LinkV x)) is)
   where
     none_meets : (w new : WorldView) (p q : ℕ) (e : Event) (high : PartView) (c : Option Crossing) → option_map (with_both w p q) (met_with e AbsentV high c) ≡ Some new → ⊥
@@ -365,7 +426,48 @@ arrive_pair got dropped w new there here p q AbsentV (LinkV x) good on off d lin
     none_meets w new p q e high (Some c) is = cc is
 arrive_pair got dropped w new there here p q low (TileV u) good on off d link is = absurd link
 arrive_pair got dropped w new there here p q low (RouterV u) good on off d link is = absurd link
+arrive_pair got dropped w new there here p q low (HostV s) good on off d link is = absurd link
 arrive_pair got dropped w new there here p q low AbsentV good on off d link is = absurd link
+
+-- ---- an event on the host and a link of its
+
+put_pair : (got : ℕ → List Letter) (dropped : List Letter) (w new : WorldView) (p q : ℕ) (low high : PartView) → Good w → OnPart w p low → OnPart w q high → p ≡ 0 → q ≡ part_count w.shape - 2 → IsLink high →
+    option_map (with_both w p q) (meets event.HostPut low high) ≡ Some new → Reached got dropped w (put_steps (Some low)) new
+put_pair got dropped w new p q (HostV s) (LinkV x) good on off first from link is =
+    let m = did_meet w new p q (meets event.HostPut (HostV s) (LinkV x)) is in
+    let at : kind_of w.shape q ≡ link_kind 0 (router_part w.shape 0) = ap (kind_of w.shape) from ∙ link_from_host w.shape in
+    subst (λ (z : WorldView). Reached got dropped w (put_steps (Some (HostV s))) z) m.2
+    (put_reached got dropped w p q s x m.0 good on off first (ap (leads_to_tile w.shape) at ∙ router_no_tile w.shape good.limits) (ap (leads_to_host w.shape) at ∙ router_no_host w.shape good.limits) m.1)
+put_pair got dropped w new p q (TileV v) (LinkV x) good on off first from link is = cc is
+put_pair got dropped w new p q (RouterV v) (LinkV x) good on off first from link is = cc is
+put_pair got dropped w new p q (LinkV y) (LinkV x) good on off first from link is = cc is
+put_pair got dropped w new p q AbsentV (LinkV x) good on off first from link is = cc is
+put_pair got dropped w new p q low (TileV v) good on off first from link is = absurd link
+put_pair got dropped w new p q low (RouterV v) good on off first from link is = absurd link
+put_pair got dropped w new p q low (HostV s) good on off first from link is = absurd link
+put_pair got dropped w new p q low AbsentV good on off first from link is = absurd link
+
+-- the first part is the host
+first_is : (part : PartView) → StandsAt kind.Host part → (s : HostState) × (part ≡ HostV s)
+first_is (HostV s) stands = (s, refl)
+first_is (TileV v) stands = absurd stands
+first_is (RouterV v) stands = absurd stands
+first_is (LinkV x) stands = absurd stands
+first_is AbsentV stands = absurd stands
+
+take_pair : (got : ℕ → List Letter) (dropped : List Letter) (w new : WorldView) (p q : ℕ) (low high : PartView) → Good w → OnPart w p low → OnPart w q high → p ≡ 0 → q ≡ part_count w.shape - 3 → IsLink high →
+    option_map (with_both w p q) (meets event.HostTake low high) ≡ Some new → Reached got dropped w (take_steps (carried high)) new
+take_pair got dropped w new p q low (LinkV x) good on off first onto link is =
+    let host = first_is low (subst (λ i. StandsAt (kind_of w.shape i) low) first (stands_on w p low good on)) in
+    let m = did_meet w new p q (meets event.HostTake low (LinkV x)) is in
+    let at : kind_of w.shape q ≡ link_kind (router_part w.shape 0) 0 = ap (kind_of w.shape) onto ∙ link_to_host w.shape in
+    subst (λ (z : WorldView). Reached got dropped w (take_steps (front_of x)) z) m.2
+    (take_reached got dropped w p q host.0 x m.0 good (subst (OnPart w p) host.1 on) off first (ap (leads_to_tile w.shape) at) (ap (leads_to_host w.shape) at)
+    (subst (λ (part : PartView). meets event.HostTake part (LinkV x) ≡ Some m.0) host.1 m.1))
+take_pair got dropped w new p q low (TileV v) good on off first onto link is = absurd link
+take_pair got dropped w new p q low (RouterV v) good on off first onto link is = absurd link
+take_pair got dropped w new p q low (HostV s) good on off first onto link is = absurd link
+take_pair got dropped w new p q low AbsentV good on off first onto link is = absurd link
 
 -- the parts are there
 pair_at : (got : ℕ → List Letter) (dropped : List Letter) (e : Event) (w new : WorldView) (p q : ℕ) (low high : PartView) → Good w → Joined w e p q → OnPart w p low → OnPart w q high →
@@ -377,8 +479,10 @@ pair_at got dropped (event.Arrive there here) w new p q low high good joined a b
 pair_at got dropped (event.Turn t n) w new p q low high good joined a b is = cc is
 pair_at got dropped (event.Deliver t) w new p q low high good joined a b is = cc is
 pair_at got dropped (event.Route x) w new p q low high good joined a b is = cc is
-pair_at got dropped event.HostPut w new p q low high good joined a b is = cc is
-pair_at got dropped event.HostTake w new p q low high good joined a b is = cc is
+pair_at got dropped event.HostPut w new p q low high good joined a b is =
+    put_pair got dropped w new p q low high good a b joined.0 joined.1 (link_there w q _ _ high good b (ap (kind_of w.shape) joined.1 ∙ link_from_host w.shape)) is
+pair_at got dropped event.HostTake w new p q low high good joined a b is =
+    take_pair got dropped w new p q low high good a b joined.0 joined.1 (link_there w q _ _ high good b (ap (kind_of w.shape) joined.1 ∙ link_to_host w.shape)) is
 pair_at got dropped (event.Report x) w new p q low high good joined a b is = cc is
 pair_at got dropped event.Begin w new p q low high good joined a b is = cc is
 pair_at got dropped (event.Confirm x) w new p q low high good joined a b is = cc is
@@ -430,8 +534,8 @@ joined_at w (event.Arrive there here) good =
 joined_at w (event.Turn t n) good = free w (event.Turn t n) (places w.shape (event.Turn t n)) (λ p q. tt)
 joined_at w (event.Deliver t) good = free w (event.Deliver t) (places w.shape (event.Deliver t)) (λ p q. tt)
 joined_at w (event.Route x) good = free w (event.Route x) (places w.shape (event.Route x)) (λ p q. tt)
-joined_at w event.HostPut good = tt
-joined_at w event.HostTake good = tt
+joined_at w event.HostPut good = (refl, refl)
+joined_at w event.HostTake good = (refl, refl)
 joined_at w (event.Report x) good = free w (event.Report x) (places w.shape (event.Report x)) (λ p q. tt)
 joined_at w event.Begin good = tt
 joined_at w (event.Confirm x) good = free w (event.Confirm x) (places w.shape (event.Confirm x)) (λ p q. tt)

@@ -7,6 +7,9 @@ use Rattle.tn_base.specs.declared.op.Op.TheVariants as op
 use Rattle.tn_base.specs.declared.shape.ShapeNumbers.{ShapeNumbers}
 use Rattle.tn_base.specs.Address.{has_thread, thread_at, tile_of}
 use Rattle.tn_base.specs.Shape.{thread_count}
+use Rattle.tn_host.specs.declared.script.ScriptItem.{ScriptItem}
+use Rattle.tn_host.specs.declared.script.ScriptItem.TheVariants as item
+use Rattle.tn_host.specs.Script.{first_item, is_no_send, past_await}
 use Rattle.tn_slots.specs.Pool.{key_in}
 use Rattle.tn_thread.specs.Sight.{Sight}
 use Rattle.tn_thread.specs.Step.{Stepped, runnable}
@@ -18,7 +21,7 @@ use Rattle.tn_letters.specs.declared.steps.BagStep.{BagStep}
 use Rattle.tn_letters.specs.declared.steps.BagStep.TheVariants as bag
 use Rattle.tn_letters.specs.declared.steps.Seen.{Seen}
 use Rattle.tn_letters.specs.Letters.{Takes, host_address, letters}
-use Rattle.tn_letters.specs.State.{BagState, Program, ScriptItem, Send, AwaitIdle, Same, put}
+use Rattle.tn_letters.specs.State.{BagState, Program, Same, put}
 
 -- what the thread at an address sees: the free part, and the bytes of the letters that it holds
 abbrev pub sight : Seen → ℕ → BagState → Sight
@@ -102,28 +105,17 @@ freed a slot s = record s { held = put s.held a (put (s.held a) slot None) }
 abbrev pub addresses : ShapeNumbers → List ℕ
 addresses n = map (thread_at n) (range_with_len 0 (thread_count n))
 
--- the host sends a letter next
-abbrev pub SendsNext : List ScriptItem → Type 0
-SendsNext [] = ⊥
-SendsNext (Send to bytes ∷ items) = Unit {0}
-SendsNext (AwaitIdle ∷ items) = ⊥
-
 -- the machine is at rest: every thread is idle or dead, no letter is in flight, and the host does not send next
 pub record IsAtRest (n : ShapeNumbers) (s : BagState) : Type 0 where
   pub threads : (a : ℕ) → IsTrue (has_thread n a) → does_nothing (s.threads a).state ≡ true
   pub flight : s.flight ≡ []
-  pub host : SendsNext s.script → ⊥
+  pub host : is_no_send (first_item s.script) ≡ true
 
 -- what the idle threads read: 2 where all threads that live voted for the end, else 1
 abbrev pub answer : ShapeNumbers → BagState → ℕ
 answer n s = if list_all (λ a. votes_for (s.threads a).state) (addresses n) then 2 else 1
 
 -- a host that waits for the rest goes on
-abbrev pub past_await : List ScriptItem → List ScriptItem
-past_await [] = []
-past_await (Send to bytes ∷ items) = Send to bytes ∷ items
-past_await (AwaitIdle ∷ items) = items
-
 abbrev pub announced : ShapeNumbers → BagState → BagState
 announced n s = record s {
   threads = λ a. told (answer n s) (s.threads a);
@@ -156,7 +148,7 @@ Happens m (bag.Idle a seen vote) old new =
 Happens m bag.Announce old new = IsAtRest m.shape old × (new ≡ announced m.shape old)
 -- the host sends the next letter of its script
 Happens m (bag.HostSend l) old new =
-    (items : List ScriptItem) × (old.script ≡ Send l.receiver l.bytes ∷ items)
+    (items : List ScriptItem) × (old.script ≡ item.Send (record { 0 = l.receiver }) l.bytes ∷ items)
     × (l.origin ≡ host_address) × (l.number ≡ old.host_sends)
     × (new ≡ record old { flight = l ∷ old.flight; script = items; host_sends = old.host_sends + 1 })
 -- the host takes a letter to it

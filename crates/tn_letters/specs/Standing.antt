@@ -14,7 +14,7 @@ use Rattle.tn_router.specs.declared.work.Work.{Work}
 use Rattle.tn_router.specs.Left.{copies_left, copies_out}
 use Rattle.tn_node.specs.PortRows.{at as waits_for}
 use Rattle.tn_router.specs.RouterView.{RouterView}
-use Rattle.tn_rows.specs.PartView.{PartView, TileV, RouterV, LinkV, AbsentV}
+use Rattle.tn_rows.specs.PartView.{PartView, TileV, RouterV, LinkV, HostV, AbsentV}
 use Rattle.tn_rows.specs.WorldView.{WorldView}
 use Rattle.tn_slots.specs.Pool.{slot_at}
 use Rattle.tn_tile.specs.Step.{pending_at}
@@ -25,7 +25,7 @@ use Rattle.tn_keys.specs.Copies.{Copy, each_below, only_if}
 use Rattle.tn_keys.specs.Reach.{Reach}
 use Rattle.tn_letters.specs.Letters.{letter_for, letters_to, link_board, packet_letters}
 use Rattle.tn_letters.specs.State.{BagState}
-use Rattle.tn_letters.specs.Tiles.{held_of, letter_in, reach_of, thread_of}
+use Rattle.tn_letters.specs.Tiles.{held_of, host_on, letter_in, reach_of, thread_of}
 
 -- the letters of a packet that waits at a place
 abbrev pub waiting : ShapeNumbers → Reach → Place → Option Packet → List (Place × Letter)
@@ -114,6 +114,7 @@ abbrev pub part_standing : ShapeNumbers → Reach → ℕ → PartView → List 
 part_standing n reach p (TileV v) = tile_standing reach p v
 part_standing n reach p (RouterV v) = router_standing reach p v
 part_standing n reach p (LinkV v) = link_standing n reach p v
+part_standing n reach p (HostV s) = []
 part_standing n reach p AbsentV = []
 
 -- on the part of this number of a machine
@@ -128,8 +129,8 @@ standing w = each_below (part_count w.shape) (standing_on w)
 abbrev pub standing_letters : WorldView → List Letter
 standing_letters w = map (λ (q : Place × Letter). q.1) (standing w)
 
--- the bag machine's state of a machine before its first event. The machine shows no letter that was handed or dropped,
--- and there are no host and no detector yet
+-- the bag machine's state of a machine before its first event. The machine shows no letter that was handed to a thread or dropped,
+-- and there is no detector yet
 abbrev pub bag_at : WorldView → BagState
 bag_at w = record {
   threads = thread_of w;
@@ -137,8 +138,8 @@ bag_at w = record {
   got = λ a. [];
   held = held_of w;
   dropped = [];
-  host = [];
-  script = [];
-  host_sends = 0;
+  host = (host_on w).got;
+  script = (host_on w).script;
+  host_sends = (host_on w).sends;
   announcements = 0;
 }

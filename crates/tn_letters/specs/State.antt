@@ -4,6 +4,7 @@ use Rattle.rv_isa.specs.declared.instr.Instr.{Instr}
 use Rattle.tn_base.specs.declared.message.Letter.{Letter}
 use Rattle.tn_base.specs.declared.shape.ShapeNumbers.{ShapeNumbers}
 use Rattle.tn_base.specs.Address.{has_thread}
+use Rattle.tn_host.specs.declared.script.ScriptItem.{ScriptItem}
 use Rattle.tn_thread.specs.declared.thread.Thread.{Thread}
 use Rattle.tn_keys.specs.Reach.{Reach}
 use Rattle.tn_letters.specs.Letters.{SameBag}
@@ -16,11 +17,6 @@ pub record Program : Type 0 where
   pub code : ℕ → List (Option Instr)
   -- where the keys of the routers' tables lead
   pub reach : Reach
-
--- what the host does next: it sends these bytes to a receiver, or waits for the machine's rest
-pub data ScriptItem : Type 0 where
-  Send : ℕ → List ℕ → ScriptItem
-  AwaitIdle : ScriptItem
 
 pub record BagState : Type 0 where
   -- by address

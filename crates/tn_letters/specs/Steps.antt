@@ -11,8 +11,12 @@ use Rattle.tn_base.specs.declared.port.Port.{Port}
 use Rattle.tn_base.specs.declared.port.Port.TheVariants as port
 use Rattle.tn_base.specs.Address.{place_in_tile}
 use Rattle.tn_base.specs.Ports.{tile_port}
+use Rattle.tn_host.specs.declared.script.ScriptItem.{ScriptItem}
+use Rattle.tn_host.specs.declared.script.ScriptItem.TheVariants as item
+use Rattle.tn_host.specs.Rows.{host_letter}
+use Rattle.tn_host.specs.Script.{first_item}
 use Rattle.tn_rows.specs.Events.{carried, happened}
-use Rattle.tn_rows.specs.PartView.{PartView, TileV, RouterV, LinkV, AbsentV}
+use Rattle.tn_rows.specs.PartView.{PartView, TileV, RouterV, LinkV, HostV, AbsentV}
 use Rattle.tn_rows.specs.Places.{Places, Nowhere, One, Two, places}
 use Rattle.tn_rows.specs.WorldView.{WorldView}
 use Rattle.tn_slots.specs.Pool.{key_for, queue_at}
@@ -24,8 +28,8 @@ use Rattle.tn_letters.specs.declared.steps.BagStep.{BagStep}
 use Rattle.tn_letters.specs.declared.steps.BagStep.TheVariants as bag
 use Rattle.tn_letters.specs.declared.steps.Seen.{Seen}
 use Rattle.tn_keys.specs.Reach.{Reach}
-use Rattle.tn_letters.specs.Letters.{packet_letters}
-use Rattle.tn_letters.specs.Tiles.{letter_in, reach_of}
+use Rattle.tn_letters.specs.Letters.{host_address, letter, packet_letters}
+use Rattle.tn_letters.specs.Tiles.{host_in, letter_in, reach_of}
 
 -- what the tile shows to the thread at a place
 abbrev pub seen_at : TileView → ℕ → Seen
@@ -102,6 +106,7 @@ part_steps reach e None = []
 part_steps reach e (Some (TileV v)) = tile_steps reach e v
 part_steps reach e (Some (RouterV v)) = []
 part_steps reach e (Some (LinkV v)) = []
+part_steps reach e (Some (HostV s)) = []
 part_steps reach e (Some AbsentV) = []
 
 -- a part takes the packet that the other part of an event gives
@@ -109,15 +114,33 @@ abbrev pub taking_steps : Reach → Option Packet → PartView → List BagStep
 taking_steps reach packet (TileV v) = delivery_steps reach packet v
 taking_steps reach packet (RouterV v) = []
 taking_steps reach packet (LinkV v) = []
+taking_steps reach packet (HostV s) = []
 taking_steps reach packet AbsentV = []
 
 abbrev pub arrival_steps : Reach → Option Packet → Option PartView → List BagStep
 arrival_steps reach packet None = []
 arrival_steps reach packet (Some part) = taking_steps reach packet part
 
+-- the host sends the message that comes next in its script, which has this number among its messages
+abbrev pub send_steps : ℕ → Option ScriptItem → List BagStep
+send_steps number None = []
+send_steps number (Some (item.Send t bytes)) = bag.HostSend (letter host_address number t.0 bytes) ∷ []
+send_steps number (Some item.AwaitIdle) = []
+
+abbrev pub put_steps : Option PartView → List BagStep
+put_steps None = []
+put_steps (Some part) = send_steps (host_in part).sends (first_item (host_in part).script)
+
+-- the host takes the letter of the packet that its link gives
+abbrev pub take_steps : Option Packet → List BagStep
+take_steps None = []
+take_steps (Some k) = bag.HostHand (host_letter k) ∷ []
+
 -- the steps that an event on two parts is; only what arrives can be dropped
 abbrev pub meeting_steps : Reach → Event → Option PartView → Option PartView → List BagStep
 meeting_steps reach (event.Arrive l p) low high = arrival_steps reach (option_and_then carried high) low
+meeting_steps reach event.HostPut low high = put_steps low
+meeting_steps reach event.HostTake low high = take_steps (option_and_then carried high)
 meeting_steps reach _ low high = []
 
 abbrev pub steps_at : Event → WorldView → Places → List BagStep

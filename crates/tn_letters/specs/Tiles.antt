@@ -5,13 +5,15 @@ use Rattle.std.specs.List.{range_with_len}
 use Rattle.tn_base.specs.declared.message.Letter.{Letter}
 use Rattle.tn_base.specs.Address.{in_tile, place_in_tile, tile_of, tile_place}
 use Rattle.tn_base.specs.Parts.{board_count, router_part, tile_part}
+use Rattle.tn_host.specs.HostView.{HostState}
+use Rattle.tn_host.specs.Rows.{fresh_state}
 use Rattle.tn_slots.specs.Pool.{slot_at}
 use Rattle.tn_thread.specs.declared.thread.Thread.{Thread}
 use Rattle.tn_tile.specs.declared.sender.Sender.{Sender}
 use Rattle.tn_tile.specs.Kept.{fresh_tile}
 use Rattle.tn_tile.specs.Step.{no_thread, thread_at}
 use Rattle.tn_tile.specs.TileView.{TileView}
-use Rattle.tn_rows.specs.PartView.{PartView, TileV, RouterV, LinkV, AbsentV}
+use Rattle.tn_rows.specs.PartView.{PartView, TileV, RouterV, LinkV, HostV, AbsentV}
 use Rattle.tn_rows.specs.WorldView.{WorldView}
 use Rattle.tn_keys.specs.Reach.{Reach, reach}
 use Rattle.tn_keys.specs.Tables.{Table}
@@ -26,6 +28,7 @@ abbrev pub tile_in : PartView → TileView
 tile_in (TileV v) = v
 tile_in (RouterV v) = no_tile
 tile_in (LinkV v) = no_tile
+tile_in (HostV s) = no_tile
 tile_in AbsentV = no_tile
 
 -- the part of the tile that the thread at an address is on, and the tile
@@ -62,11 +65,27 @@ abbrev pub beats_on : PartView → Table
 beats_on (TileV v) = []
 beats_on (RouterV v) = v.plan.beats
 beats_on (LinkV v) = []
+beats_on (HostV s) = []
 beats_on AbsentV = []
 
 -- the tables of the machine: by board, those of its router
 unfoldable pub tables_of : WorldView → List Table
 tables_of w = map (λ i. beats_on (slice_index_or w.parts (router_part w.shape i) AbsentV)) (range_with_len 0 (board_count w.shape))
+
+-- what stands where there is no host
+abbrev pub no_host : HostState
+no_host = fresh_state []
+
+abbrev pub host_in : PartView → HostState
+host_in (TileV v) = no_host
+host_in (RouterV v) = no_host
+host_in (LinkV v) = no_host
+host_in (HostV s) = s
+host_in AbsentV = no_host
+
+-- the host is the first part
+abbrev pub host_on : WorldView → HostState
+host_on w = host_in (slice_index_or w.parts 0 AbsentV)
 
 -- where the keys of the machine lead
 abbrev pub reach_of : WorldView → Reach
