@@ -112,6 +112,9 @@ calm_on limit start history now mid end e calm less is step not = rw is (
   omega (arith, less, length-append history (e ∷ [])),
 )
 
+pub reached_now : (limit : ℕ) (start : WorldView) (history : List Event) (end : WorldView) → Calm start history end → length history ≤ limit → Reached limit start end
+reached_now limit start history end calm few = (history, few, calm_runs start history end calm, calm_longest start history end calm)
+
 pub reached : (limit : ℕ) (start : WorldView) (history : List Event) (mid end : WorldView) (e : Event) → Calm start history mid → length history < limit → Makes e mid end → Reached limit start end
 reached limit start history mid end e calm less step =
     (history ++ e ∷ [], omega (arith, less, length-append history (e ∷ [])), calm_final start history mid end e calm step, final_longest start history mid end e calm step)

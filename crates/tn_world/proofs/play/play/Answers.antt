@@ -1,5 +1,5 @@
 use Rattle.std.proofs.Common.{◌<◌, ◌≤◌, arith, length, sym, ◌∙◌}
-use Rattle.tn_world.proofs.Calm.{calm_on, on_error, played_final, played_limit, played_rest, reached}
+use Rattle.tn_world.proofs.Calm.{calm_on, on_error, played_final, played_limit, played_rest, reached, reached_now}
 use Rattle.tn_world.proofs.play.play.Goals as goal
 
 pub returns-in_default : goal.returns-in_default
@@ -7,6 +7,11 @@ returns-in_default g c =
     let i = c.loop-stock.invariant in
     let made = c.in_default.ensures in
     played_rest c.args.limit c.args.world.now c.loop-stock.history.items c.loop-stock.world c.next_move.new.world i.0 i.1 made.0 made.1
+
+pub returns-in_err-reserve : goal.returns-in_err-reserve
+returns-in_err-reserve g c =
+    let i = c.loop-stock.invariant in
+    on_error c.from_residual-in_err-reserve.result _ _ c.from_residual-in_err-reserve.ensures.0 (reached_now c.args.limit c.args.world.now c.loop-stock.history.items c.loop-stock.world i.0 i.1)
 
 pub returns-in_err-push : goal.returns-in_err-push
 returns-in_err-push g c =
