@@ -4,7 +4,6 @@ use Rattle.rv_isa.specs.declared.instr.Instr.{Instr}
 use Rattle.rv_exec.specs.Exec.{OnAsking, regs_after, step_at}
 use Rattle.tn_base.specs.declared.effect.Effect.{Effect}
 use Rattle.tn_base.specs.declared.effect.Effect.TheVariants as effect
-use Rattle.tn_base.specs.declared.event.Trap.TheVariants as trap
 use Rattle.tn_base.specs.declared.op.Op.TheVariants as op
 use Rattle.tn_thread.specs.declared.ask.Ask.{Ask}
 use Rattle.tn_thread.specs.declared.state.ThreadState.{ThreadState}
@@ -17,7 +16,6 @@ use Rattle.tn_thread.specs.Step.{Stepped, resumed, resumed_by, stepped as thread
 use Rattle.tn_thread.proofs.Fits.{turned_resumes, turned_runs}
 use Rattle.tn_tile.specs.Alone.{AsksAt, Fetches, NextIs, Stops, alone_at}
 use Rattle.tn_tile.specs.Step.{fetched_at, fetched_by, next_step}
-use Rattle.tn_tile.proofs.Runs.{goes_is}
 use Rattle.tn_tile.proofs.Turned.{fetched_runs, turned_from}
 
 -- a call that does not go on changed nothing
@@ -26,39 +24,31 @@ goes_none None t new h = h.1
 goes_none (Some g) t new h = let none = h.0 in cc
 
 -- an effect that does not go on asks
-asking : (e : Effect) (seen : Sight) (pc : ℕ) (t new : Thread) (P : Type 0) → Goes None (alone e seen pc t) t new → OnAsking e P → P
-asking effect.Next seen pc t new P h p = let none = h.0 in cc
-asking (effect.Jump target) seen pc t new P h p = let none = h.0 in cc
-asking (effect.Load rd addr width signed) seen pc t new P h p = p
-asking (effect.Store addr width value) seen pc t new P h p = p
-asking (effect.CsrRead rd csr) seen pc t new P h p = p
-asking (effect.CsrWrite rd csr value) seen pc t new P h p = p
-asking (effect.Trap why) seen pc t new P h p = p
+asking : (e : Effect) (seen : Sight) (pc : ℕ) (t old new : Thread) (P : Type 0) → Goes None (alone e seen pc t) old new → OnAsking e P → P
+asking effect.Next seen pc t old new P h p = let none = h.0 in cc
+asking (effect.Jump target) seen pc t old new P h p = let none = h.0 in cc
+asking (effect.Load rd addr width signed) seen pc t old new P h p = p
+asking (effect.Store addr width value) seen pc t old new P h p = p
+asking (effect.CsrRead rd csr) seen pc t old new P h p = p
+asking (effect.CsrWrite rd csr value) seen pc t old new P h p = p
+asking (effect.Trap why) seen pc t old new P h p = p
 
--- the instruction was executed, and the thread goes on
-pub goes_on_at : (o : Option (Option Instr)) (e : Effect) (seen : Sight) (pc next : ℕ) (old mid new : Thread) → Fetches o e pc old mid → Goes (Some next) (alone e seen pc mid) mid new → alone_at o seen pc old ≡ Some (record { pc = next; thread = new })
-goes_on_at None e seen pc next old mid new f h =
-    let g : Goes (Some next) (alone (effect.Trap trap.BadFetch) seen pc mid) mid new = subst (λ x. Goes (Some next) (alone x seen pc mid) mid new) f.0 h in
-    let none = g.0 in cc
-goes_on_at (Some None) e seen pc next old mid new f h =
-    let g : Goes (Some next) (alone (effect.Trap trap.BadInstr) seen pc mid) mid new = subst (λ x. Goes (Some next) (alone x seen pc mid) mid new) f.0 h in
-    let none = g.0 in cc
-goes_on_at (Some (Some i)) e seen pc next old mid new f h =
-    let s = step_at i pc old.regs in
-    let written : Thread = record old { regs = regs_after s.written i.rd old.regs } in
-    let g : Goes (Some next) (alone s.effect seen pc mid) mid new = subst (λ x. Goes (Some next) (alone x seen pc mid) mid new) f.0 h in
-    let k : Goes (Some next) (alone s.effect seen pc written) written new = subst (λ (x : Thread). Goes (Some next) (alone s.effect seen pc x) x new) f.1 g in
-    goes_is (Some next) (alone s.effect seen pc written) written new next k refl
+-- the instruction at which such steps stop, executed on the thread that is caught up: it asks, and changes nothing
+asked_at : (o : Option (Option Instr)) (e : Effect) (seen : Sight) (n pc : ℕ) (t mid : Thread) → Goes None (alone_at o seen pc t) t t → Fetches o e pc (caught_up n pc t) mid → AsksAt o e pc t × (mid ≡ caught_up n pc t)
+asked_at None e seen n pc t mid h f = f
+asked_at (Some None) e seen n pc t mid h f = f
+asked_at (Some (Some i)) e seen n pc t mid h f =
+    let s = step_at i pc t.regs in
+    let written : Thread = record t { regs = regs_after s.written i.rd t.regs } in
+    let g : Goes None (alone e seen pc written) t t = subst (λ x. Goes None (alone x seen pc written) t t) (sym f.0) h in
+    let kept : mid.regs ≡ t.regs = asking e seen pc written t t (mid.regs ≡ t.regs) g f.2 in
+    let same : regs_after s.written i.rd t.regs ≡ t.regs = sym (ap (λ (x : Thread). x.regs) f.1) ∙ kept in
+    ((f.0, same), f.1 ∙ ap (λ r. record (caught_up n pc t) { regs = r }) same)
 
--- the instruction was executed, and its step asks
-pub asks_at : (o : Option (Option Instr)) (e : Effect) (seen : Sight) (pc : ℕ) (old mid new : Thread) → Fetches o e pc old mid → Goes None (alone e seen pc mid) mid new → AsksAt o e pc old × (new ≡ old)
-asks_at None e seen pc old mid new f h = (f.0, goes_none _ mid new h ∙ f.1)
-asks_at (Some None) e seen pc old mid new f h = (f.0, goes_none _ mid new h ∙ f.1)
-asks_at (Some (Some i)) e seen pc old mid new f h =
-    let s = step_at i pc old.regs in
-    let kept : mid.regs ≡ old.regs = asking e seen pc mid new (mid.regs ≡ old.regs) h f.2 in
-    let same : regs_after s.written i.rd old.regs ≡ old.regs = sym (ap (λ (t : Thread). t.regs) f.1) ∙ kept in
-    ((f.0, same), goes_none _ mid new h ∙ (f.1 ∙ ap (λ r. record old { regs = r }) same))
+pub asked_again : (o : Option (Option Instr)) (e : Effect) (seen : Sight) (n pc : ℕ) (t u mid : Thread) → Goes None (alone_at o seen pc t) t u → Fetches o e pc (caught_up n pc u) mid → AsksAt o e pc t × (mid ≡ caught_up n pc t)
+asked_again o e seen n pc t u mid h f =
+    let same : u ≡ t = goes_none (alone_at o seen pc t) t u h in
+    asked_at o e seen n pc t mid (subst (λ (x : Thread). Goes None (alone_at o seen pc t) t x) same h) (subst (λ (x : Thread). Fetches o e pc (caught_up n pc x) mid) same f)
 
 -- so its effect is the next one of the thread that is caught up
 pub asked_next : (o : Option (Option Instr)) (e : Effect) (n pc : ℕ) (t : Thread) → AsksAt o e pc t → fetched_at o (caught_up n pc t) ≡ record { thread = caught_up n pc t; effect = e }

@@ -1,8 +1,9 @@
 //! Steps of a thread that ask nothing of its tile, in a loop of their own: most steps are such ones.
 
-ghost use Rattle.std.specs.Prelude.{◌≡◌, ◌≤◌, ◌<◌, ◌+◌, ◌/◌, ◌^◌, MatchResult, Some, slice_get};
+ghost use Rattle.std.specs.Prelude.{◌≡◌, ◌≤◌, ◌<◌, ◌+◌, ◌/◌, ◌^◌, Some, slice_get};
+ghost use Rattle.tn_thread.specs.Alone.{Goes, StockGoes};
 ghost use Rattle.tn_thread.specs.Step.{FitsStep};
-ghost use Rattle.tn_tile.specs.Alone.{AsksAt, Fetches, Stops, alone_at, went_alone};
+ghost use Rattle.tn_tile.specs.Alone.{Fetches, Stops, alone_at, went_alone};
 
 use rv_exec::exec::exec;
 use rv_isa::instr::Instr;
@@ -31,23 +32,19 @@ pub(crate) fn run_code<V: View>(
     let mut pc = thread.pc();
     let mut made = 0;
     while made < most {
-        match step_alone(code, pc, thread, sight, stock) {
-            Ok(next) => {
-                pc = next;
-                made += 1;
-            }
-            Err(effect) => {
-                thread.catch_up(made, pc);
-                return (made, Some(effect));
-            }
-        }
+        let Some(next) = step_alone(code, pc, thread, sight, stock) else {
+            thread.catch_up(made, pc);
+            let effect = fetch_at(code, pc, thread);
+            return (made, Some(effect));
+        };
+        pc = next;
+        made += 1;
     }
     thread.catch_up(made, pc);
     (made, None)
 }
 
-/// Executes the instruction at `pc`. If its step asks nothing of the tile, it says where the thread goes on, else it gives
-/// the effect, and the thread stays as it was.
+/// Executes the instruction at `pc`, where its step asks nothing of the tile, and says where the thread goes on.
 #[inline(always)]
 fn step_alone<V: View>(
     code: &[Option<Instr>],
@@ -55,17 +52,17 @@ fn step_alone<V: View>(
     thread: &mut Thread,
     sight: &V,
     stock: &mut PageStock,
-) -> Result<u32, Effect>
+) -> Option<u32>
     requires { 0 < stock.old }
-    ensures step { MatchResult result
-        (λ next. alone_at (slice_get code.now (pc / 4)) (V.sight sight.now) pc thread.old ≡ Some (record { pc = next; thread = thread.new }))
-        (λ effect. (AsksAt (slice_get code.now (pc / 4)) effect pc thread.old × (thread.new ≡ thread.old)) × FitsStep effect) }
-    ensures stock { MatchResult result (λ _. stock.old ≤ stock.new + 1) (λ _. stock.new ≡ stock.old) }
+    ensures step { Goes result (alone_at (slice_get code.now (pc / 4)) (V.sight sight.now) pc thread.old) thread.old thread.new }
+    ensures stock { StockGoes result stock.old stock.new }
 {
-    let effect = fetch_at(code, pc, thread);
-    match thread.go_alone(effect, sight, stock, pc) {
-        Some(next) => Ok(next),
-        None => Err(effect),
+    match code.get((pc / 4) as usize) {
+        Some(Some(i)) => {
+            let effect = exec(i, pc, &mut thread.regs);
+            thread.go_alone(effect, sight, stock, pc)
+        }
+        _ => None,
     }
 }
 

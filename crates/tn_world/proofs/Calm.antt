@@ -15,7 +15,8 @@ use Rattle.tn_tile.specs.declared.deliver.Did.TheVariants as did_as
 use Rattle.tn_tile.specs.Turns.{moved}
 use Rattle.tn_world.proofs.Crossings.{does_some}
 use Rattle.tn_world.proofs.Listed.{first_some, is_here}
-use Rattle.tn_world.specs.Plays.{First, Makes, Played, Reached}
+use Rattle.tn_world.specs.declared.play.Made.{Made}
+use Rattle.tn_world.specs.Plays.{First, Makes, Played, Reached, Told}
 
 -- each event is enabled in turn, turns are the longest, and none is final
 abbrev pub Calm : WorldView → List Event → WorldView → Type 0
@@ -129,19 +130,19 @@ does_nothing : {V : Type 0} (h : Bool) (o : Option V) (old new : V) → h ≡ fa
 does_nothing h None old new e d = (d.1, refl)
 does_nothing h (Some v) old new e d = let clash : true ≡ false = sym d.0 ∙ e in cc clash
 
-pub makes : (r : Option Event) (did : Did) (e : Event) (old new : WorldView) → IsLongest e old → MatchOption r (did ≡ did_as.Nothing) (λ m. (did ≡ did_as.Moved) × (m ≡ e)) → Does (moved did) (happened e old) old new →
-    MatchOption r ((new ≡ old) × (happened e old ≡ None)) (λ m. Makes m old new)
-makes None did e old new longest made does = does_nothing (moved did) (happened e old) old new (ap moved made) does
-makes (Some m) did e old new longest made does =
-    subst (λ (m : Event). Makes m old new) (sym made.1) (record { happens = does_some (moved did) (happened e old) old new (ap moved made.0) does; longest = longest })
+pub makes : (r : Option Made) (did : Did) (e : Event) (ends : Bool) (old new : WorldView) → IsLongest e old → ends ≡ is_some (final_of e new) → MatchOption r (did ≡ did_as.Nothing) (λ m. (did ≡ did_as.Moved) × (m ≡ record { event = e; ends = ends })) → Does (moved did) (happened e old) old new →
+    MatchOption r ((new ≡ old) × (happened e old ≡ None)) (λ m. Told m.event m.ends old new)
+makes None did e ends old new longest told made does = does_nothing (moved did) (happened e old) old new (ap moved made) does
+makes (Some m) did e ends old new longest told made does =
+    subst (λ (m : Made). Told m.event m.ends old new) (sym made.1) (record { makes = record { happens = does_some (moved did) (happened e old) old new (ap moved made.0) does; longest = longest }; ends = told })
 
 -- the first event that is enabled is made
-by_made : (r : Option Event) (old new : WorldView) (xs : List Event) (e : Event) → First old xs e → MatchOption r ((new ≡ old) × (happened e old ≡ None)) (λ m. Makes m old new) → MatchOption r ((new ≡ old) × Rests old) (λ m. Makes m old new)
-by_made None old new xs e first made =
+by_made : {M : Type 0} (r : Option M) (made_by : M → WorldView → WorldView → Type 0) (old new : WorldView) (xs : List Event) (e : Event) → First old xs e → MatchOption r ((new ≡ old) × (happened e old ≡ None)) (λ m. made_by m old new) → MatchOption r ((new ≡ old) × Rests old) (λ m. made_by m old new)
+by_made None made_by old new xs e first made =
     let some : is_some (happened e old) ≡ true = is_here (happened e old) (first_some old xs e first) in
     let none : is_some (happened e old) ≡ false = ap (λ (o : Option WorldView). is_some o) made.1 in
     let clash : true ≡ false = sym some ∙ none in cc clash
-by_made (Some m) old new xs e first made = made
+by_made (Some m) made_by old new xs e first made = made
 
-pub next_made : (r : Option Event) (old mid new : WorldView) (xs : List Event) (e : Event) → mid ≡ old → First mid xs e → MatchOption r ((new ≡ mid) × (happened e mid ≡ None)) (λ m. Makes m mid new) → MatchOption r ((new ≡ old) × Rests old) (λ m. Makes m old new)
-next_made r old mid new xs e same first made = subst (λ (o : WorldView). MatchOption r ((new ≡ o) × Rests o) (λ m. Makes m o new)) same (by_made r mid new xs e first made)
+pub next_made : {M : Type 0} (r : Option M) (made_by : M → WorldView → WorldView → Type 0) (old mid new : WorldView) (xs : List Event) (e : Event) → mid ≡ old → First mid xs e → MatchOption r ((new ≡ mid) × (happened e mid ≡ None)) (λ m. made_by m mid new) → MatchOption r ((new ≡ old) × Rests old) (λ m. made_by m old new)
+next_made r made_by old mid new xs e same first made = subst (λ (o : WorldView). MatchOption r ((new ≡ o) × Rests o) (λ m. made_by m o new)) same (by_made r made_by mid new xs e first made)

@@ -2,7 +2,7 @@
 use Rattle.std.proofs.Common.{◌≡◌, ◌∙◌, ℕ, Bool, true, false, None, Some, refl, ap, subst, sym, get_or, set, length, ◌<◌, is_some, MatchResult, option_and_then, option_map}
 use Rattle.std.specs.declared.option.Option.{Option}
 use Rattle.std.specs.List.{slice_get}
-use Rattle.std.proofs.lemmas.List.{set-get_or}
+use Rattle.std.proofs.lemmas.List.{get_or-set_same, length-set, set-get_or}
 use Rattle.std.proofs.lemmas.Option.{get_or_from_slice_get, slice_get_read}
 use Rattle.tn_base.specs.declared.event.Event.{Event}
 use Rattle.tn_base.specs.Does.{Does}
@@ -21,6 +21,7 @@ use Rattle.tn_tile.specs.declared.step.Turned.{Turned}
 use Rattle.tn_tile.specs.declared.step.Turned.TheVariants as turned
 use Rattle.tn_tile.specs.Turns.{moved}
 use Rattle.tn_world.specs.Plays.{Turns, TurnsPart}
+use Rattle.tn_rows.specs.Ends.{ended_on, final_of}
 use Rattle.tn_rows.specs.Events.{after, happened, happened_at, with_part, FitsKind, IsWorld}
 use Rattle.tn_rows.specs.Places.{One, at_part, is_router, one_if, part_of, places}
 use Rattle.tn_stamp.specs.declared.entry.Crossing.TheVariants as crossing
@@ -77,6 +78,14 @@ turns_world w t p old new turned.Nothing here a d = (
   rw d.0 (back w p old a),
   λ m. at_place w (event.Turn t m) p old (one_place w.shape t p here) a ∙ ap (λ o. option_map (with_part w p) o) (d.1 m),
 )
+
+-- whether a turn ends a run is told by its part
+pub final_turn : (w : WorldView) (t : ThreadId) (p : ℕ) (old new : PartView) → part_of w.shape t ≡ Some p → At w p old → final_of (event.Turn t 1) (record w { parts = set w.parts p new }) ≡ ended_on t new
+final_turn w t p old new here a =
+    let parts = set w.parts p new in
+    let within : p < length parts = rw (length-set w.parts p new) a.within in
+    let there : slice_get parts p ≡ Some new = slice_get_read parts (length parts) p new refl within (sym (get_or-set_same w.parts p new new a.within)) in
+    ap (λ q. option_and_then (ended_on t) (option_and_then (slice_get parts) q)) here ∙ ap (λ o. option_and_then (ended_on t) o) there
 
 turned_keeps : (w : WorldView) (t : ThreadId) (p : ℕ) (old new : PartView) (r : Turned) → TurnsPart r t old new → FitsKind w.shape (kind_of w.shape p) old → FitsKind w.shape (kind_of w.shape p) new
 turned_keeps w t p old new (turned.Moved n) d f = kind_stays (event.Turn t n) crossing.None w.shape (kind_of w.shape p) old new d.0 f

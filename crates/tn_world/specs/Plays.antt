@@ -1,9 +1,9 @@
 -- What turns, and runs of them, leave.
-use Rattle.std.specs.Prelude.{ℕ, ◌≡◌, ◌≤◌, ◌<◌, ◌⊎◌, Bool, false, not, List, [], ◌∷◌, length, Some, None, IsSome, MatchOption}
+use Rattle.std.specs.Prelude.{ℕ, ◌≡◌, ◌≤◌, ◌<◌, ◌⊎◌, Bool, true, false, not, List, [], ◌∷◌, length, Some, None, IsSome, MatchOption, is_some}
 use Rattle.tn_base.specs.declared.event.Event.{Event}
 use Rattle.tn_base.specs.declared.event.Event.TheVariants as event
 use Rattle.tn_base.specs.declared.ids.ThreadId.{ThreadId}
-use Rattle.tn_rows.specs.Ends.{final_after, last_of}
+use Rattle.tn_rows.specs.Ends.{final_after, final_of, last_of}
 use Rattle.tn_rows.specs.Events.{after, happened, Rests}
 use Rattle.tn_rows.specs.PartView.{PartView, TileV, RouterV, LinkV, AbsentV}
 use Rattle.tn_rows.specs.Runs.{IsLongest, LongTurns, Run}
@@ -23,6 +23,11 @@ abbrev pub Turns : Turned → ThreadId → WorldView → WorldView → Type 0
 Turns (turned.Moved n) t old new = (happened (event.Turn t n) old ≡ Some new) × ((m : ℕ) → n < m → happened (event.Turn t m) old ≡ None)
 Turns turned.Nothing t old new = (new ≡ old) × ((m : ℕ) → happened (event.Turn t m) old ≡ None)
 
+-- a turn was made
+abbrev pub did_turn : Turned → Bool
+did_turn (turned.Moved n) = true
+did_turn turned.Nothing = false
+
 -- a packet waits on a part for a way out
 abbrev pub offers : PartView → Bool
 offers (TileV v) = not (all_empty v.now.node.out)
@@ -34,6 +39,11 @@ offers AbsentV = false
 pub record Makes (e : Event) (old new : WorldView) : Type 0 where
   pub happens : happened e old ≡ Some new
   pub longest : IsLongest e old
+
+-- the machine makes an event, and it is told whether the event ends the run
+pub record Told (e : Event) (last : Bool) (old new : WorldView) : Type 0 where
+  pub makes : Makes e old new
+  pub ends : last ≡ is_some (final_of e new)
 
 -- a run of longest turns that ends with a final event, where no event is enabled, or at its limit
 pub record Played (limit : ℕ) (start : WorldView) (history : List Event) (end : WorldView) : Type 0 where

@@ -4,26 +4,41 @@
 //! or have a pending packet. It may miss an event: before a run ends, every event is tested, so a miss costs time and loses no
 //! event.
 
+ghost use Rattle.std.specs.Prelude.{◌<◌};
+ghost use Rattle.tn_base.specs.Address.{tile_threads};
+
+use crate::part::Contents;
 use crate::site::Site;
 use crate::world::World;
 use std::alloc::{AllocError, Global};
 use tn_base::event::Event;
-use tn_base::ids::PartId;
+use tn_base::ids::{PartId, ThreadId};
 use tn_base::part::Kind;
+use tn_base::port::Port;
 use tn_base::shape::Shape;
 use tn_link::link::Link;
+use tn_router::router::Router;
+use tn_tile::tile::Tile;
 
 /// Marks of at most 320 stops; a machine has at most 273 of them.
 const WORDS: usize = 5;
 
-/// No more links than this number lead to a part.
+/// No more links than this number lead to a part, or away from a part.
 const PORTS: u32 = 7;
 
-/// The parts that a link joins.
+/// The parts that a link joins, and the link's place among those that lead to the second.
 #[derive(Clone, Copy)]
 struct Ends {
     from: PartId,
     to: PartId,
+    place: u32,
+}
+
+/// A link that leads away from a part, and its way.
+#[derive(Clone, Copy)]
+struct Exit {
+    link: PartId,
+    way: Port,
 }
 
 /// The links of a host, tile or router, in their order.
@@ -31,31 +46,20 @@ struct Ends {
 struct Stop {
     /// The links that lead to the part.
     arrivals: Vec<PartId>,
+    /// The links among these that may have a packet, by place.
+    loaded: u32,
     /// The links that lead away from it.
-    departures: Vec<PartId>,
+    departures: Vec<Exit>,
 }
 
 /// The kinds of events of a part, in the order in which a run tries them.
 #[derive(Clone, Copy)]
 enum Stage {
     Arrivals,
-    Deliveries,
-    Routings,
+    /// Of a tile the pending packets; of a router the next record.
+    Packets,
     Turns,
     Departures,
-}
-
-impl Stage {
-    /// The kind behind this kind; None behind the last.
-    fn after(self) -> Option<Stage> {
-        match self {
-            Stage::Arrivals => Some(Stage::Deliveries),
-            Stage::Deliveries => Some(Stage::Routings),
-            Stage::Routings => Some(Stage::Turns),
-            Stage::Turns => Some(Stage::Departures),
-            Stage::Departures => None,
-        }
-    }
 }
 
 /// Where a run is among the events of all parts.
@@ -79,9 +83,9 @@ pub(crate) struct Agenda {
 impl Agenda {
     /// The agenda of a machine at the first part. Something may happen on every part.
     pub(crate) fn of(alloc: Global, shape: &Shape, sites: &[Site]) -> Result<Agenda, AllocError> {
-        let ends = ends_of(alloc, sites)?;
         let first_link = shape.visited();
-        let stops = stops_of(alloc, first_link, &ends)?;
+        let stops = stops_of(alloc, first_link, sites)?;
+        let ends = ends_of(alloc, &stops, sites)?;
         let mut agenda = Agenda {
             stops,
             ends,
@@ -118,6 +122,7 @@ impl Agenda {
             Event::Depart(_, l) => {
                 if let Some(ends) = self.ends_at(l) {
                     self.mark(ends.to.0 as usize);
+                    self.load(ends);
                 }
             }
             Event::Arrive(l, _) => {
@@ -133,92 +138,116 @@ impl Agenda {
     pub(crate) fn mark_all(&mut self) {
         for p in 0..self.stops.len() {
             self.mark(p);
+            if let Some(stop) = self.stops.get_mut(p) {
+                stop.loaded = u32::MAX;
+            }
+        }
+    }
+
+    /// A packet is on a link.
+    fn load(&mut self, ends: Ends) {
+        if let Some(stop) = self.stops.get_mut(ends.to.0 as usize) {
+            stop.loaded |= 1u32 << (ends.place % 32);
         }
     }
 
     /// The next event of the part in hand, kind by kind. None ends the visit: the next visit begins at the first kind.
     fn event<L: Link>(&mut self, world: &World<L>) -> Option<Event> {
-        for _ in 0..5 {
-            let found = self.event_of(world);
-            if found.is_some() {
-                return found;
+        let part = world.parts.get(self.at as usize)?;
+        let found = match &part.contents {
+            Contents::Tile(tile) => self.event_of_tile(world, tile),
+            Contents::Router(router) => self.event_of_router(world, router),
+            Contents::Link(_) | Contents::Absent => None,
+        };
+        if found.is_none() {
+            self.go_to(Stage::Arrivals);
+        }
+        found
+    }
+
+    /// The next kind of events begins.
+    fn go_to(&mut self, stage: Stage) {
+        self.stage = stage;
+        self.next = 0;
+    }
+
+    /// The next event of a tile, which is the part in hand.
+    fn event_of_tile<L: Link>(&mut self, world: &World<L>, tile: &Tile) -> Option<Event> {
+        if let Stage::Arrivals = self.stage {
+            if let Some(event) = self.arrival(world) {
+                return Some(event);
             }
-            self.next = 0;
-            match self.stage.after() {
-                Some(stage) => self.stage = stage,
-                None => {
-                    self.stage = Stage::Arrivals;
-                    return None;
-                }
+            self.go_to(Stage::Packets);
+        }
+        if let Stage::Packets = self.stage {
+            if let Some(place) = tile.next_send(self.next) {
+                self.next = place.wrapping_add(1);
+                return Some(Event::Deliver(thread_at(tile, place)));
+            }
+            self.go_to(Stage::Turns);
+        }
+        if let Stage::Turns = self.stage {
+            if let Some(place) = tile.next_ready(self.next) {
+                self.next = place.wrapping_add(1);
+                return Some(Event::Turn(thread_at(tile, place), 1));
+            }
+            self.go_to(Stage::Departures);
+        }
+        for _ in 0..PORTS {
+            let exit = self.next_exit()?;
+            if tile.offer(exit.way).is_some() {
+                return Some(Event::Depart(PartId(self.at), exit.link));
             }
         }
         None
     }
 
-    /// The next event of the kind in hand.
-    fn event_of<L: Link>(&mut self, world: &World<L>) -> Option<Event> {
-        match self.stage {
-            Stage::Arrivals => self.arrival(world),
-            Stage::Deliveries => self.delivery(world),
-            Stage::Routings => self.routing(world),
-            Stage::Turns => self.turn(world),
-            Stage::Departures => self.departure(world),
+    /// The next event of a router, which is the part in hand. It routes once a visit.
+    fn event_of_router<L: Link>(&mut self, world: &World<L>, router: &Router) -> Option<Event> {
+        if let Stage::Arrivals = self.stage {
+            if let Some(event) = self.arrival(world) {
+                return Some(event);
+            }
+            self.go_to(Stage::Departures);
+            return Some(Event::Route(PartId(self.at)));
         }
+        for _ in 0..PORTS {
+            let exit = self.next_exit()?;
+            if router.offer(exit.way).is_some() {
+                return Some(Event::Depart(PartId(self.at), exit.link));
+            }
+        }
+        None
     }
 
     /// The next link with a packet that leads to the part in hand.
     fn arrival<L: Link>(&mut self, world: &World<L>) -> Option<Event> {
+        let stop = self.stops.get_mut(self.at as usize)?;
         for _ in 0..PORTS {
-            let l = self.link_in()?;
-            self.next = self.next.wrapping_add(1);
+            let rest = stop.loaded & (u32::MAX << (self.next % 32));
+            if rest == 0 {
+                return None;
+            }
+            let place = rest.trailing_zeros();
+            let Some(l) = stop.arrivals.get(place as usize).copied() else {
+                stop.loaded &= !(u32::MAX << (place % 32));
+                return None;
+            };
+            self.next = place.wrapping_add(1);
             if world.parts.get(l.0 as usize)?.carries() {
                 return Some(Event::Arrive(l, PartId(self.at)));
             }
+            stop.loaded &= !(1u32 << (place % 32));
         }
         None
     }
 
-    /// The next link that leads to the part in hand.
-    fn link_in(&self) -> Option<PartId> {
+    /// The next link that leads away from the part in hand.
+    fn next_exit(&mut self) -> Option<Exit> {
         let stop = self.stops.get(self.at as usize)?;
-        stop.arrivals.get(self.next as usize).copied()
-    }
-
-    /// The next pending packet of the part in hand.
-    fn delivery<L: Link>(&mut self, world: &World<L>) -> Option<Event> {
-        let found = world.parts.get(self.at as usize)?.next_send(self.next)?;
-        self.next = found.place.wrapping_add(1);
-        Some(Event::Deliver(found.thread))
-    }
-
-    /// The routing of the part in hand, once a visit.
-    fn routing<L: Link>(&mut self, world: &World<L>) -> Option<Event> {
-        if self.next != 0 || !world.parts.get(self.at as usize)?.is_router() {
-            return None;
-        }
-        self.next = 1;
-        Some(Event::Route(PartId(self.at)))
-    }
-
-    /// The next thread of the part in hand that can make a step.
-    fn turn<L: Link>(&mut self, world: &World<L>) -> Option<Event> {
-        let found = world.parts.get(self.at as usize)?.next_ready(self.next)?;
-        self.next = found.place.wrapping_add(1);
-        Some(Event::Turn(found.thread, 1))
-    }
-
-    /// The next link that leads away from the part in hand, if a packet waits there for a way out.
-    fn departure<L: Link>(&mut self, world: &World<L>) -> Option<Event> {
-        if !world.parts.get(self.at as usize)?.offers() {
-            return None;
-        }
-        let l = *self
-            .stops
-            .get(self.at as usize)?
-            .departures
-            .get(self.next as usize)?;
+        let exit = *stop.departures.get(self.next as usize)?;
         self.next = self.next.wrapping_add(1);
-        Some(Event::Depart(PartId(self.at), l))
+        Some(exit)
     }
 
     fn ends_at(&self, l: PartId) -> Option<Ends> {
@@ -258,35 +287,67 @@ impl Agenda {
     }
 }
 
-/// The ends of each link, in order.
-fn ends_of(alloc: Global, sites: &[Site]) -> Result<Vec<Ends>, AllocError> {
-    let mut all = Vec::new(alloc);
-    for site in sites {
-        if let Kind::Link { from, to } = site.kind {
-            all.push(Ends { from, to })?;
-        }
-    }
-    Ok(all)
+/// The thread at a place of a tile.
+fn thread_at(tile: &Tile, place: u32) -> ThreadId
+    requires { place < tile_threads tile.now.plan.shape }
+{
+    tile.kept();
+    tile.shape().thread_in_tile(tile.name(), place)
 }
 
 /// The links of each visited part.
-fn stops_of(alloc: Global, first_link: u32, ends: &[Ends]) -> Result<Vec<Stop>, AllocError> {
+fn stops_of(alloc: Global, first_link: u32, sites: &[Site]) -> Result<Vec<Stop>, AllocError> {
     let mut stops = Vec::new(alloc);
     for _ in 0..first_link {
         stops.push(Stop {
             arrivals: Vec::new(alloc),
+            loaded: 0,
             departures: Vec::new(alloc),
         })?;
     }
-    let mut l = first_link;
-    for end in ends {
-        if let Some(stop) = stops.get_mut(end.to.0 as usize) {
-            stop.arrivals.push(PartId(l))?;
-        }
-        if let Some(stop) = stops.get_mut(end.from.0 as usize) {
-            stop.departures.push(PartId(l))?;
+    let mut l = 0u32;
+    for site in sites {
+        if let Kind::Link { from, to } = site.kind {
+            if let Some(stop) = stops.get_mut(to.0 as usize) {
+                stop.arrivals.push(PartId(l))?;
+            }
+            if let Some(stop) = stops.get_mut(from.0 as usize) {
+                stop.departures.push(Exit {
+                    link: PartId(l),
+                    way: site.way,
+                })?;
+            }
         }
         l = l.wrapping_add(1);
     }
     Ok(stops)
+}
+
+/// The ends of each link, in order.
+fn ends_of(alloc: Global, stops: &[Stop], sites: &[Site]) -> Result<Vec<Ends>, AllocError> {
+    let mut all = Vec::new(alloc);
+    let mut l = 0u32;
+    for site in sites {
+        if let Kind::Link { from, to } = site.kind {
+            let place = place_of(stops, to, PartId(l));
+            all.push(Ends { from, to, place })?;
+        }
+        l = l.wrapping_add(1);
+    }
+    Ok(all)
+}
+
+/// The place of a link among those that lead to a part.
+fn place_of(stops: &[Stop], to: PartId, l: PartId) -> u32 {
+    let Some(stop) = stops.get(to.0 as usize) else {
+        return 0;
+    };
+    let mut place = 0u32;
+    for arrival in &stop.arrivals {
+        if *arrival == l {
+            return place;
+        }
+        place = place.wrapping_add(1);
+    }
+    0
 }

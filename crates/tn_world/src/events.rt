@@ -1,6 +1,6 @@
 //! Events on a machine.
 
-ghost use Rattle.std.specs.Prelude.{◌≡◌, ◌<◌, ◌≤◌, MatchOption, MatchResult, is_some, option_and_then, option_copied, option_map, slice_get};
+ghost use Rattle.std.specs.Prelude.{◌≡◌, ◌<◌, ◌≤◌, ◌&&◌, MatchOption, MatchResult, is_some, option_and_then, option_copied, option_map, slice_get};
 ghost use Rattle.std.specs.List.{list_all};
 ghost use Rattle.tn_base.specs.declared.event.Event.TheVariants as event;
 ghost use Rattle.tn_base.specs.Does.{Does};
@@ -10,9 +10,9 @@ ghost use Rattle.tn_rows.specs.Events.{Rests, happened};
 ghost use Rattle.tn_rows.specs.Listed.{arrivals, arrivals_from, deliveries, departures, departures_from, listed, routings, turns};
 ghost use Rattle.tn_rows.specs.Places.{part_of};
 ghost use Rattle.tn_tile.specs.Turns.{StockLasts, moved};
-ghost use Rattle.tn_world.specs.Plays.{First, NoneOf, Turns};
+ghost use Rattle.tn_world.specs.Plays.{First, NoneOf, Turns, did_turn};
 
-use crate::part::Part;
+use crate::part::{LastTurn, Part};
 use crate::world::World;
 use std::alloc::AllocError;
 use tn_base::event::{Event, Outcome};
@@ -21,7 +21,6 @@ use tn_base::laws::law_threads;
 use tn_link::link::Link;
 use tn_pages::stock::PageStock;
 use tn_tile::deliver::Did;
-use tn_tile::step::Turned;
 
 /// One event, where it is enabled. A turn's steps are made on a copy of its tile, which takes memory.
 pub fn step<L: Link>(world: &mut World<L>, e: &Event) -> Result<Did, AllocError>
@@ -163,18 +162,19 @@ impl<L: Link> World<L> {
         }
     }
 
-    /// The longest turn of a thread, with pages of a full stock.
-    pub(crate) fn turn(&mut self, t: ThreadId, stock: &mut PageStock) -> Turned
+    /// The longest turn of a thread with pages of a full stock, and whether it ends a run.
+    pub(crate) fn turn(&mut self, t: ThreadId, stock: &mut PageStock) -> LastTurn
         requires { 64 ≤ stock.old }
-        ensures turn { Turns result t self.old self.new }
-        ensures stock { StockLasts result stock.old stock.new }
+        ensures turn { Turns result.turned t self.old self.new }
+        ensures ends { result.ends ≡ (did_turn result.turned && is_some (final_of (event.Turn t 1) self.new)) }
+        ensures stock { StockLasts result.turned stock.old stock.new }
     {
         let Some(p) = self.part_of(t) else {
-            return Turned::Nothing;
+            return LastTurn::NOTHING;
         };
         let at = p.0 as usize;
         if at >= self.parts.len() {
-            return Turned::Nothing;
+            return LastTurn::NOTHING;
         }
         self.parts[at].turn(t, stock)
     }

@@ -1,8 +1,7 @@
 //! A part of a machine.
 
-ghost use Rattle.std.specs.Prelude.{◌≡◌, ◌↔◌, ◌<◌, ◌≤◌, IfOk, IsTrue, MatchResult, is_some, not, option_copied, option_map};
+ghost use Rattle.std.specs.Prelude.{◌≡◌, ◌↔◌, ◌≤◌, ◌&&◌, IfOk, IsTrue, MatchResult, is_some, not, option_copied, option_map};
 ghost use Rattle.tn_base.specs.declared.event.Event.TheVariants as event;
-ghost use Rattle.tn_base.specs.Address.{tile_threads};
 ghost use Rattle.tn_base.specs.Does.{Does};
 ghost use Rattle.tn_rows.specs.Ends.{bad_key_on, ended_on, is_over};
 ghost use Rattle.tn_rows.specs.Events.{after, carried};
@@ -11,10 +10,10 @@ ghost use Rattle.tn_node.specs.PortRows.{all_empty};
 ghost use Rattle.tn_router.specs.RouterView.{now_by as router_now_by};
 ghost use Rattle.tn_router.specs.Rows.{route_row};
 ghost use Rattle.tn_stamp.specs.declared.entry.Crossing.TheVariants as crossing;
-ghost use Rattle.tn_tile.specs.Rows.{turn_row};
+ghost use Rattle.tn_tile.specs.Rows.{is_here, turn_row};
 ghost use Rattle.tn_tile.specs.TileView.{now_by};
-ghost use Rattle.tn_tile.specs.Turns.{StockLasts, moved};
-ghost use Rattle.tn_world.specs.Plays.{TurnsPart, offers};
+ghost use Rattle.tn_tile.specs.Turns.{StockLasts, TurnIs, moved};
+ghost use Rattle.tn_world.specs.Plays.{TurnsPart, did_turn, offers};
 
 use std::alloc::AllocError;
 use std::marker::Model;
@@ -39,11 +38,19 @@ pub(crate) enum Contents<L> {
     Absent,
 }
 
-/// A thread of a tile, and its place there.
+/// What came of a turn, and whether it ends a run.
 #[derive(Clone, Copy)]
-pub(crate) struct Found {
-    pub(crate) place: u32,
-    pub(crate) thread: ThreadId,
+pub(crate) struct LastTurn {
+    pub(crate) turned: Turned,
+    pub(crate) ends: bool,
+}
+
+impl LastTurn {
+    /// No turn.
+    pub(crate) const NOTHING: LastTurn = LastTurn {
+        turned: Turned::Nothing,
+        ends: false,
+    };
 }
 
 /// A part of a machine: a tile, a router, a link, or one of those that are not built yet. No event touches an absent part.
@@ -154,15 +161,16 @@ impl<L: Link> Part<L> {
         }
     }
 
-    /// The longest turn of a thread, with pages of a full stock.
-    pub(crate) fn turn(&mut self, t: ThreadId, stock: &mut PageStock) -> Turned
+    /// The longest turn of a thread with pages of a full stock, and whether it ends a run.
+    pub(crate) fn turn(&mut self, t: ThreadId, stock: &mut PageStock) -> LastTurn
         requires { 64 ≤ stock.old }
-        ensures turn { TurnsPart result t self.old self.new }
-        ensures stock { StockLasts result stock.old stock.new }
+        ensures turn { TurnsPart result.turned t self.old self.new }
+        ensures ends { result.ends ≡ (did_turn result.turned && is_some (ended_on t self.new)) }
+        ensures stock { StockLasts result.turned stock.old stock.new }
     {
         match &mut self.contents {
-            Contents::Tile(tile) if tile.is_here(t) => tile.turn(t, stock),
-            _ => Turned::Nothing,
+            Contents::Tile(tile) if tile.is_here(t) => turn_long(tile, t, stock),
+            _ => LastTurn::NOTHING,
         }
     }
 
@@ -247,25 +255,6 @@ impl<L: Link> Part<L> {
         }
     }
 
-    /// Whether the part is a router.
-    pub(crate) fn is_router(&self) -> bool {
-        matches!(self.contents, Contents::Router(_))
-    }
-
-    /// The first thread of the tile from a place on that can make a step; None if the part is no tile.
-    pub(crate) fn next_ready(&self, from: u32) -> Option<Found> {
-        let tile = self.as_tile()?;
-        let place = tile.next_ready(from)?;
-        Some(found_at(tile, place))
-    }
-
-    /// The first thread of the tile from a place on whose packet is pending; None if the part is no tile.
-    pub(crate) fn next_send(&self, from: u32) -> Option<Found> {
-        let tile = self.as_tile()?;
-        let place = tile.next_send(from)?;
-        Some(found_at(tile, place))
-    }
-
     /// How a run ends with a turn of this thread after which the part is this one, if that turn is final.
     pub(crate) fn ended_by(&self, t: ThreadId) -> Option<Outcome>
         ensures { result ≡ ended_on t self.now }
@@ -297,15 +286,6 @@ impl<L: Link> Part<L> {
             Contents::Absent => true,
         }
     }
-}
-
-/// The thread at a place of a tile.
-fn found_at(tile: &Tile, place: u32) -> Found
-    requires { place < tile_threads tile.now.plan.shape }
-{
-    tile.kept();
-    let thread = tile.shape().thread_in_tile(tile.name(), place);
-    Found { place, thread }
 }
 
 /// Whether a packet waits in a tile for a way out.
@@ -360,6 +340,37 @@ fn turn_tile(tile: &mut Tile, t: ThreadId, n: u32) -> Result<Did, AllocError>
     }
     *tile = after;
     Ok(Did::Moved)
+}
+
+/// The longest turn of a thread of a tile, and whether it ends a run.
+#[inline(always)]
+fn turn_long(tile: &mut Tile, t: ThreadId, stock: &mut PageStock) -> LastTurn
+    requires here { IsTrue (is_here tile.old.plan t.0) }
+    requires pages { 64 ≤ stock.old }
+    ensures turn { TurnIs result.turned t.0 tile.old tile.new }
+    ensures ends { result.ends ≡ (did_turn result.turned && is_some (ended_on t (TileV tile.new))) }
+    ensures stock { StockLasts result.turned stock.old stock.new }
+{
+    match tile.turn(t, stock) {
+        Turned::Nothing => LastTurn::NOTHING,
+        Turned::Moved(n) => LastTurn {
+            turned: Turned::Moved(n),
+            ends: ends_on(tile, t),
+        },
+    }
+}
+
+/// Whether a turn of `t` that left the tile so ends a run: the thread trapped, or has used its fuel.
+#[inline(always)]
+fn ends_on(tile: &Tile, t: ThreadId) -> bool
+    requires { IsTrue (is_here tile.now.plan t.0) }
+    ensures { result ≡ is_some (ended_on t (TileV tile.now)) }
+{
+    let thread = tile.thread(t);
+    match thread.state() {
+        ThreadState::Trapped(_) => true,
+        _ => thread.steps() == tile.shape().numbers().fuel,
+    }
 }
 
 /// The outcome of a run whose last event is a turn of `t` that left the tile so: the thread trapped, or has used its fuel. None

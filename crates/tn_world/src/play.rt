@@ -1,8 +1,8 @@
 //! Runs of a machine on one thread.
 
-ghost use Rattle.std.specs.Prelude.{◌≡◌, ◌≤◌, MatchOption, MatchResult, None, ⊤};
+ghost use Rattle.std.specs.Prelude.{◌≡◌, ◌≤◌, ⊤, MatchOption, MatchResult, None, false};
 ghost use Rattle.tn_rows.specs.Events.{Rests, happened};
-ghost use Rattle.tn_world.specs.Plays.{Makes, Played, Reached};
+ghost use Rattle.tn_world.specs.Plays.{Played, Reached, Told};
 
 use crate::agenda::Agenda;
 use crate::events::{enabled, final_of};
@@ -28,15 +28,22 @@ pub fn play<L: Link>(world: &mut World<L>, limit: u64) -> Result<Vec<Event>, All
     let mut stock = PageStock::of(alloc);
     while (history.len() as u64) < limit {
         stock.reserve(FULL)?;
-        let Some(event) = next_move(world, &mut agenda, &mut stock) else {
+        let Some(made) = next_move(world, &mut agenda, &mut stock) else {
             return Ok(history);
         };
-        history.push(event)?;
-        if final_of(world, &event).is_some() {
+        history.push(made.event)?;
+        if made.ends {
             return Ok(history);
         }
     }
     Ok(history)
+}
+
+/// An event that was made, and whether it ends the run.
+#[derive(Clone, Copy)]
+struct Made {
+    event: Event,
+    ends: bool,
 }
 
 /// The next event of the run; none where no event is enabled.
@@ -44,63 +51,81 @@ fn next_move<L: Link>(
     world: &mut World<L>,
     agenda: &mut Agenda,
     stock: &mut PageStock,
-) -> Option<Event>
+) -> Option<Made>
     requires { 64 ≤ stock.old }
-    ensures { MatchOption result ((world.new ≡ world.old) × Rests world.old) (λ e. Makes e world.old world.new) }
+    ensures { MatchOption result ((world.new ≡ world.old) × Rests world.old) (λ m. Told m.event m.ends world.old world.new) }
 {
-    if let Some(event) = try_agenda(world, agenda, stock) {
-        return Some(event);
+    if let Some(made) = try_agenda(world, agenda, stock) {
+        return Some(made);
     }
     let event = enabled(world)?;
     agenda.mark_all();
     make(world, &event, stock)
 }
 
-/// The first event of the agenda that is enabled.
+/// The first event of the agenda that is enabled. If there is no such event, the stock stays full.
 fn try_agenda<L: Link>(
     world: &mut World<L>,
     agenda: &mut Agenda,
     stock: &mut PageStock,
-) -> Option<Event>
+) -> Option<Made>
     requires { 64 ≤ stock.old }
-    ensures event { MatchOption result (world.new ≡ world.old) (λ e. Makes e world.old world.new) }
+    ensures event { MatchOption result (world.new ≡ world.old) (λ m. Told m.event m.ends world.old world.new) }
     ensures stock { MatchOption result (64 ≤ stock.new) (λ _. ⊤) }
 {
     for _ in 0..MOST_TRIES {
         let tried = agenda.next(world)?;
-        if let Some(event) = make(world, &tried, stock) {
-            agenda.happened(&event);
-            return Some(event);
+        if let Some(made) = make(world, &tried, stock) {
+            agenda.happened(&made.event);
+            return Some(made);
         }
     }
     None
 }
 
-/// Makes an event where it is enabled; a turn becomes the longest one of its thread. If no event is made, the stock stays full.
-fn make<L: Link>(world: &mut World<L>, e: &Event, stock: &mut PageStock) -> Option<Event>
+/// Makes an event if it is enabled; a turn becomes the longest turn of its thread. If no event is made, the stock stays full.
+fn make<L: Link>(world: &mut World<L>, e: &Event, stock: &mut PageStock) -> Option<Made>
     requires { 64 ≤ stock.old }
-    ensures event { MatchOption result ((world.new ≡ world.old) × (happened e.now world.old ≡ None)) (λ made. Makes made world.old world.new) }
+    ensures event { MatchOption result ((world.new ≡ world.old) × (happened e.now world.old ≡ None)) (λ m. Told m.event m.ends world.old world.new) }
     ensures stock { MatchOption result (64 ≤ stock.new) (λ _. ⊤) }
 {
     match *e {
-        Event::Turn(t, _) => match world.turn(t, stock) {
-            Turned::Moved(n) => Some(Event::Turn(t, n)),
-            Turned::Nothing => None,
-        },
-        Event::Deliver(t) => made(world.deliver(t), *e),
-        Event::Depart(p, l) => made(world.depart(p, l), *e),
-        Event::Arrive(l, p) => made(world.arrive(l, p), *e),
-        Event::Route(p) => made(world.route(p), *e),
+        Event::Turn(t, _) => {
+            let last = world.turn(t, stock);
+            match last.turned {
+                Turned::Moved(n) => Some(Made {
+                    event: Event::Turn(t, n),
+                    ends: last.ends,
+                }),
+                Turned::Nothing => None,
+            }
+        }
+        Event::Deliver(t) => went_on(world.deliver(t), *e),
+        Event::Depart(p, l) => went_on(world.depart(p, l), *e),
+        Event::Arrive(l, p) => went_on(world.arrive(l, p), *e),
+        Event::Route(p) => {
+            let did = world.route(p);
+            told(did, *e, final_of(world, e).is_some())
+        }
         _ => None,
     }
 }
 
-/// The event, if it happened.
-fn made(did: Did, e: Event) -> Option<Event>
-    ensures { MatchOption result (did ≡ Did.Nothing) (λ made. (did ≡ Did.Moved) × (made ≡ e)) }
+/// The event, if it happened: it ends no run.
+#[inline(always)]
+fn went_on(did: Did, e: Event) -> Option<Made>
+    ensures { MatchOption result (did ≡ Did.Nothing) (λ m. (did ≡ Did.Moved) × (m ≡ record { event = e; ends = false })) }
+{
+    told(did, e, false)
+}
+
+/// The event, if it happened, and whether it ends the run.
+#[inline(always)]
+fn told(did: Did, event: Event, ends: bool) -> Option<Made>
+    ensures { MatchOption result (did ≡ Did.Nothing) (λ m. (did ≡ Did.Moved) × (m ≡ record { event = event; ends = ends })) }
 {
     match did {
-        Did::Moved => Some(e),
+        Did::Moved => Some(Made { event, ends }),
         Did::Nothing => None,
     }
 }

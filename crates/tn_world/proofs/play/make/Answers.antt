@@ -1,14 +1,18 @@
-use Rattle.std.proofs.Common.{◌≡◌, None, subst, sym, MatchOption}
+use Rattle.std.proofs.Common.{◌≡◌, ◌∙◌, ap, is_some, subst, sym}
 use Rattle.tn_base.specs.declared.event.Event.{Event}
-use Rattle.tn_base.specs.declared.event.Event.TheVariants as event
+use Rattle.tn_base.specs.Does.{Does}
+use Rattle.tn_rows.specs.Ends.{final_of}
 use Rattle.tn_rows.specs.Events.{happened}
-use Rattle.tn_tile.specs.declared.deliver.Did.TheVariants as did
-use Rattle.tn_world.specs.Plays.{Makes}
+use Rattle.tn_rows.specs.Runs.{IsLongest}
+use Rattle.tn_tile.specs.Turns.{moved}
 use Rattle.tn_world.proofs.Calm.{makes}
 use Rattle.tn_world.proofs.play.make.Goals as goal
 
 pub returns-in-Route-clause-event : goal.returns-in-Route-clause-event
 returns-in-Route-clause-event g c =
-    let made = subst (λ (e : Event). MatchOption c.made-in-Route.result (c.route.result ≡ did.Nothing) (λ m. (c.route.result ≡ did.Moved) × (m ≡ e))) c.in-Route.is c.made-in-Route.ensures in
-    subst (λ (e : Event). MatchOption c.made-in-Route.result ((c.route.new.self ≡ c.args.world.now) × (happened e c.args.world.now ≡ None)) (λ m. Makes m c.args.world.now c.route.new.self)) (sym c.in-Route.is)
-    (makes c.made-in-Route.result c.route.result (event.Route c.in-Route.p) c.args.world.now c.route.new.self tt made c.route.ensures)
+    let old = c.args.world.now in
+    let new = c.route-did.new.self in
+    let longest : IsLongest c.args.e.now old = subst (λ (e : Event). IsLongest e old) (sym c.in-Route.is) tt in
+    let does = subst (λ (e : Event). Does (moved c.route-did.result) (happened e old) old new) (sym c.in-Route.is) c.route-did.ensures in
+    let told : c.is_some.result ≡ is_some (final_of c.args.e.now new) = c.is_some.ensures ∙ ap (λ o. is_some o) c.final_of.ensures in
+    makes c.told.result c.route-did.result c.args.e.now c.is_some.result old new longest told c.told.ensures does

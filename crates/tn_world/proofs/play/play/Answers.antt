@@ -15,23 +15,23 @@ returns-in_err-reserve g c =
 
 pub returns-in_err-push : goal.returns-in_err-push
 returns-in_err-push g c =
-    let made = c.in-Some.ensures in
+    let made = c.in-Some.ensures.makes in
     let less : length c.loop-stock.history.items < c.args.limit = omega (arith, c.loop-stock-test.true, c.len.ensures, c.loop-stock.history.ok) in
-    on_error c.from_residual-in_err-push.result _ _ c.from_residual-in_err-push.ensures.0 (reached c.args.limit c.args.world.now c.loop-stock.history.items c.loop-stock.world c.next_move.new.world c.in-Some.event c.loop-stock.invariant.0 less made)
+    on_error c.from_residual-in_err-push.result _ _ c.from_residual-in_err-push.ensures.0 (reached c.args.limit c.args.world.now c.loop-stock.history.items c.loop-stock.world c.next_move.new.world c.in-Some.made.event c.loop-stock.invariant.0 less made)
 
-pub returns-then-is_some : goal.returns-then-is_some
-returns-then-is_some g c =
+pub returns-then-made : goal.returns-then-made
+returns-then-made g c =
     let i = c.loop-stock.invariant in
-    let made = c.in-Some.ensures in
+    let made = c.in-Some.ensures.makes in
     let less : length c.loop-stock.history.items < c.args.limit = omega (arith, c.loop-stock-test.true, c.len.ensures, c.loop-stock.history.ok) in
-    played_final c.args.limit c.args.world.now c.loop-stock.history.items c.push.new.self.items c.loop-stock.world c.next_move.new.world c.in-Some.event i.0 less c.in_ok-push.ensures.items made (rw c.final_of.ensures at (sym c.is_some.ensures ∙ c.if-is_some.true))
+    played_final c.args.limit c.args.world.now c.loop-stock.history.items c.push.new.self.items c.loop-stock.world c.next_move.new.world c.in-Some.made.event i.0 less c.in_ok-push.ensures.items made (sym c.in-Some.ensures.ends ∙ c.if-made.true)
 
 pub loop-stock-preserved : goal.loop-stock-preserved
 loop-stock-preserved g c =
     let i = c.loop-stock.invariant in
-    let made = c.in-Some.ensures in
+    let made = c.in-Some.ensures.makes in
     let less : length c.loop-stock.history.items < c.args.limit = omega (arith, c.loop-stock-test.true, c.len.ensures, c.loop-stock.history.ok) in
-    calm_on c.args.limit c.args.world.now c.loop-stock.history.items c.push.new.self.items c.loop-stock.world c.next_move.new.world c.in-Some.event i.0 less c.in_ok-push.ensures.items made (rw c.final_of.ensures at (sym c.is_some.ensures ∙ c.if-is_some.false))
+    calm_on c.args.limit c.args.world.now c.loop-stock.history.items c.push.new.self.items c.loop-stock.world c.next_move.new.world c.in-Some.made.event i.0 less c.in_ok-push.ensures.items made (sym c.in-Some.ensures.ends ∙ c.if-made.false)
 
 pub returns : goal.returns
 returns g c =
