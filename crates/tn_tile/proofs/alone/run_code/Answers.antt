@@ -1,4 +1,4 @@
-use Rattle.std.proofs.Common.{◌≡◌, ◌/◌, ◌∙◌, ap, arith, slice_get, subst, sym, Some}
+use Rattle.std.proofs.Common.{◌≤◌, ◌+◌, ◌≡◌, ◌/◌, ◌∙◌, ap, arith, slice_get, subst, sym, Some}
 use Rattle.tn_thread.specs.declared.thread.Thread.{Thread}
 use Rattle.tn_tile.specs.Step.{fetched_at}
 use Rattle.tn_tile.proofs.Asked.{asked_again, asked_next}
