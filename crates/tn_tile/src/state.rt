@@ -70,7 +70,9 @@ impl TileState {
         made == most && self.can_step(fuel, place)
     }
 
-    /// Makes as many of `most` steps of the thread at a place as it can, and says how many.
+    /// Makes as many of `most` steps of the thread at a place as it can, and says how many. It is a function of its own also in
+    /// the built program: its loop then has the registers of the processor for itself.
+    #[inline(never)]
     pub(crate) fn turn(&mut self, plan: &Plan, place: u32, most: u32) -> u32
         requires there { place < tile_threads plan.now.shape }
         requires fits { IsFit plan.now self.old }
