@@ -71,7 +71,9 @@ impl TileState {
         made == most && self.can_step(fuel, place)
     }
 
-    /// Makes as many of `most` steps of the thread at a place as it can, and says how many. A step takes at most one page.
+    /// Makes as many of `most` steps of the thread at a place as it can, and says how many. A step takes at most one page. The
+    /// turn is a function of its own also in the built program: its loop then has the registers of the processor for itself.
+    #[inline(never)]
     pub(crate) fn turn(
         &mut self,
         plan: &Plan,
