@@ -1,12 +1,12 @@
 -- Events that are never enabled: those whose parts are not there, and those for which parts have no row yet.
-use Rattle.std.proofs.Common.{◌≡◌, ◌∙◌, ℕ, ◌-◌, ◌≤◌, ltb, Bool, true, false, cond, None, Some, refl, ap, sym, is_some, option_and_then, option_map, slice_get, length}
+use Rattle.std.proofs.Common.{◌≡◌, ◌∙◌, ℕ, ◌≤◌, ltb, Bool, true, false, cond, None, Some, refl, ap, sym, is_some, option_and_then, option_map, slice_get, length}
 use Rattle.std.specs.declared.option.Option.{Option}
 use Rattle.std.proofs.lemmas.Option.{slice_get_past}
 use Rattle.tn_base.specs.declared.event.Event.{Event}
 use Rattle.tn_base.specs.declared.event.Event.TheVariants as event
 use Rattle.tn_base.specs.declared.ids.PartId.{PartId}
 use Rattle.tn_base.specs.declared.message.Packet.{Packet}
-use Rattle.tn_base.specs.Parts.{kind_of, part_count, visited}
+use Rattle.tn_base.specs.Parts.{kind_of, visited}
 use Rattle.tn_node.proofs.PortLaws.{empty_at, not_false}
 use Rattle.tn_node.specs.PortRows.{all_empty, at}
 use Rattle.tn_rows.proofs.Meeting.{no_crossing, none_is}
