@@ -2,6 +2,7 @@
 use Rattle.std.specs.declared.option.Option.{Option}
 use Rattle.std.specs.declared.result.Result.{Result}
 use Rattle.std.specs.declared.result.Result.TheVariants.{Ok, Err}
+use Rattle.std.specs.declared.alloc.AllocError.{AllocError}
 use Rattle.std.proofs.Common.{◌≡◌, ℕ, ◌≤◌, ◌<◌, length, length-append, is_some, Bool, true, false, arith, List, [], ◌∷◌, ◌++◌, None, Some, refl, sym, subst, MatchOption, MatchResult, IsErr, ap, ◌∙◌}
 use Rattle.tn_base.specs.declared.event.Event.{Event}
 use Rattle.tn_base.specs.declared.event.Outcome.{Outcome}
@@ -16,7 +17,7 @@ use Rattle.tn_tile.specs.Turns.{moved}
 use Rattle.tn_world.proofs.Crossings.{does_some}
 use Rattle.tn_world.proofs.Listed.{first_some, is_here}
 use Rattle.tn_world.specs.declared.play.Made.{Made}
-use Rattle.tn_world.specs.Plays.{First, Makes, Played, Reached, Told}
+use Rattle.tn_world.specs.Plays.{First, Makes, MakesOr, Played, Reached, Told}
 
 -- each event is enabled in turn, turns are the longest, and none is final
 abbrev pub Calm : WorldView → List Event → WorldView → Type 0
@@ -113,12 +114,13 @@ calm_on limit start history now mid end e calm less is step not = rw is (
   omega (arith, less, length-append history (e ∷ [])),
 )
 
-pub reached_now : (limit : ℕ) (start : WorldView) (history : List Event) (end : WorldView) → Calm start history end → length history ≤ limit → Reached limit start end
-reached_now limit start history end calm few = (history, few, calm_runs start history end calm, calm_longest start history end calm)
-
 pub reached : (limit : ℕ) (start : WorldView) (history : List Event) (mid end : WorldView) (e : Event) → Calm start history mid → length history < limit → Makes e mid end → Reached limit start end
 reached limit start history mid end e calm less step =
     (history ++ e ∷ [], omega (arith, less, length-append history (e ∷ [])), calm_final start history mid end e calm step, final_longest start history mid end e calm step)
+
+-- where nothing more was made
+pub reached_same : (limit : ℕ) (start : WorldView) (history : List Event) (mid end : WorldView) → Calm start history mid → length history ≤ limit → end ≡ mid → Reached limit start end
+reached_same limit start history mid end calm few same = rw same (history, few, calm_runs start history mid calm, calm_longest start history mid calm)
 
 -- a call that failed
 pub on_error : {X E : Type 0} (r : Result X E) (P : X → Type 0) (Q : Type 0) → IsErr r → Q → MatchResult r P (λ _. Q)
@@ -144,5 +146,6 @@ by_made None made_by old new xs e first made =
     let clash : true ≡ false = sym some ∙ none in cc clash
 by_made (Some m) made_by old new xs e first made = made
 
-pub next_made : {M : Type 0} (r : Option M) (made_by : M → WorldView → WorldView → Type 0) (old mid new : WorldView) (xs : List Event) (e : Event) → mid ≡ old → First mid xs e → MatchOption r ((new ≡ mid) × (happened e mid ≡ None)) (λ m. made_by m mid new) → MatchOption r ((new ≡ old) × Rests old) (λ m. made_by m old new)
-next_made r made_by old mid new xs e same first made = subst (λ (o : WorldView). MatchOption r ((new ≡ o) × Rests o) (λ m. made_by m o new)) same (by_made r made_by mid new xs e first made)
+pub first_made : (r : Result (Option Made) AllocError) (old new : WorldView) (xs : List Event) (e : Event) → First old xs e → MakesOr r (happened e old ≡ None) old new → MakesOr r (Rests old) old new
+first_made (Ok o) old new xs e first made = by_made o (λ m old new. Told m.event m.ends old new) old new xs e first made
+first_made (Err x) old new xs e first made = made

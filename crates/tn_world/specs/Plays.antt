@@ -1,14 +1,17 @@
 -- What turns, and runs of them, leave.
-use Rattle.std.specs.Prelude.{ℕ, ◌≡◌, ◌≤◌, ◌<◌, ◌⊎◌, Bool, true, false, not, List, [], ◌∷◌, length, Some, None, IsSome, MatchOption, is_some}
+use Rattle.std.specs.Prelude.{ℕ, ◌≡◌, ◌≤◌, ◌<◌, ◌⊎◌, Bool, true, false, not, List, [], ◌∷◌, length, Option, Some, None, IsSome, MatchOption, MatchResult, is_some}
+use Rattle.std.specs.declared.alloc.AllocError.{AllocError}
+use Rattle.std.specs.declared.result.Result.{Result}
 use Rattle.tn_base.specs.declared.event.Event.{Event}
 use Rattle.tn_base.specs.declared.event.Event.TheVariants as event
 use Rattle.tn_base.specs.declared.ids.ThreadId.{ThreadId}
 use Rattle.tn_rows.specs.Ends.{final_after, final_of, last_of}
 use Rattle.tn_rows.specs.Events.{after, happened, Rests}
-use Rattle.tn_rows.specs.PartView.{PartView, TileV, RouterV, LinkV, AbsentV}
+use Rattle.tn_rows.specs.PartView.{PartView, TileV, RouterV, LinkV, HostV, AbsentV}
 use Rattle.tn_rows.specs.Runs.{IsLongest, LongTurns, Run}
 use Rattle.tn_rows.specs.WorldView.{WorldView}
 use Rattle.tn_node.specs.PortRows.{all_empty}
+use Rattle.tn_world.specs.declared.play.Made.{Made}
 use Rattle.tn_stamp.specs.declared.entry.Crossing.TheVariants as crossing
 use Rattle.tn_tile.specs.declared.step.Turned.{Turned}
 use Rattle.tn_tile.specs.declared.step.Turned.TheVariants as turned
@@ -28,11 +31,12 @@ abbrev pub did_turn : Turned → Bool
 did_turn (turned.Moved n) = true
 did_turn turned.Nothing = false
 
--- a packet waits on a part for a way out
+-- a packet waits on a part for a way out; on the host no packet waits
 abbrev pub offers : PartView → Bool
 offers (TileV v) = not (all_empty v.now.node.out)
 offers (RouterV v) = not (all_empty v.now.node.out)
 offers (LinkV v) = false
+offers (HostV s) = false
 offers AbsentV = false
 
 -- the machine makes an event; a turn is the longest one
@@ -44,6 +48,10 @@ pub record Makes (e : Event) (old new : WorldView) : Type 0 where
 pub record Told (e : Event) (last : Bool) (old new : WorldView) : Type 0 where
   pub makes : Makes e old new
   pub ends : last ≡ is_some (final_of e new)
+
+-- the machine makes an event, or none and says why, or memory runs out and nothing changes
+abbrev pub MakesOr : Result (Option Made) AllocError → Type 0 → WorldView → WorldView → Type 0
+MakesOr r Why old new = MatchResult r (λ o. MatchOption o ((new ≡ old) × Why) (λ m. Told m.event m.ends old new)) (λ _. new ≡ old)
 
 -- a run of longest turns that ends with a final event, where no event is enabled, or at its limit
 pub record Played (limit : ℕ) (start : WorldView) (history : List Event) (end : WorldView) : Type 0 where

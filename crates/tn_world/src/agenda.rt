@@ -16,6 +16,7 @@ use tn_base::ids::{PartId, ThreadId};
 use tn_base::part::Kind;
 use tn_base::port::Port;
 use tn_base::shape::Shape;
+use tn_host::host::Host;
 use tn_link::link::Link;
 use tn_router::router::Router;
 use tn_tile::tile::Tile;
@@ -130,6 +131,18 @@ impl Agenda {
                     self.mark(ends.from.0 as usize);
                 }
             }
+            // The last link leads from the host to the router to which the host's other link belongs too.
+            Event::HostPut => {
+                if let Some(ends) = self.ends.last().copied() {
+                    self.mark(ends.to.0 as usize);
+                    self.load(ends);
+                }
+            }
+            Event::HostTake => {
+                if let Some(ends) = self.ends.last().copied() {
+                    self.mark(ends.to.0 as usize);
+                }
+            }
             _ => {}
         }
     }
@@ -157,6 +170,7 @@ impl Agenda {
         let found = match &part.contents {
             Contents::Tile(tile) => self.event_of_tile(world, tile),
             Contents::Router(router) => self.event_of_router(world, router),
+            Contents::Host(host) => self.event_of_host(world, host),
             Contents::Link(_) | Contents::Absent => None,
         };
         if found.is_none() {
@@ -220,6 +234,20 @@ impl Agenda {
         None
     }
 
+    /// The next event of the host, which is the part in hand. It sends one message a visit.
+    fn event_of_host<L: Link>(&mut self, world: &World<L>, host: &Host) -> Option<Event> {
+        if let Stage::Arrivals = self.stage {
+            if let Some(event) = self.arrival(world) {
+                return Some(event);
+            }
+            self.go_to(Stage::Departures);
+            if !host.held() && !host.still() {
+                return Some(Event::HostPut);
+            }
+        }
+        None
+    }
+
     /// The next link with a packet that leads to the part in hand.
     fn arrival<L: Link>(&mut self, world: &World<L>) -> Option<Event> {
         let stop = self.stops.get_mut(self.at as usize)?;
@@ -235,11 +263,20 @@ impl Agenda {
             };
             self.next = place.wrapping_add(1);
             if world.parts.get(l.0 as usize)?.carries() {
-                return Some(Event::Arrive(l, PartId(self.at)));
+                return Some(self.arrival_by(l));
             }
             stop.loaded &= !(1u32 << (place % 32));
         }
         None
+    }
+
+    /// The arrival from a link at the part in hand. The host, which is the first part, takes packets by an event of its own.
+    fn arrival_by(&self, l: PartId) -> Event {
+        if self.at == 0 {
+            Event::HostTake
+        } else {
+            Event::Arrive(l, PartId(self.at))
+        }
     }
 
     /// The next link that leads away from the part in hand.

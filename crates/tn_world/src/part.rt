@@ -5,7 +5,7 @@ ghost use Rattle.tn_base.specs.declared.event.Event.TheVariants as event;
 ghost use Rattle.tn_base.specs.Does.{Does};
 ghost use Rattle.tn_rows.specs.Ends.{bad_key_on, ended_on, is_over};
 ghost use Rattle.tn_rows.specs.Events.{after, carried};
-ghost use Rattle.tn_rows.specs.PartView.{AbsentV, LinkV, RouterV, TileV, link_of, router_of, tile_of};
+ghost use Rattle.tn_rows.specs.PartView.{AbsentV, HostV, LinkV, RouterV, TileV, host_of, link_of, router_of, tile_of};
 ghost use Rattle.tn_node.specs.PortRows.{all_empty};
 ghost use Rattle.tn_router.specs.RouterView.{now_by as router_now_by};
 ghost use Rattle.tn_router.specs.Rows.{route_row};
@@ -20,6 +20,7 @@ use std::marker::Model;
 use tn_base::event::Outcome;
 use tn_base::ids::{PartId, ThreadId};
 use tn_base::port::Port;
+use tn_host::host::Host;
 use tn_link::link::Link;
 use tn_pages::stock::PageStock;
 use tn_router::moves::Routed;
@@ -35,6 +36,7 @@ pub(crate) enum Contents<L> {
     Tile(Tile),
     Router(Router),
     Link(L),
+    Host(Host),
     Absent,
 }
 
@@ -53,7 +55,8 @@ impl LastTurn {
     };
 }
 
-/// A part of a machine: a tile, a router, a link, or one of those that are not built yet. No event touches an absent part.
+/// A part of a machine: a tile, a router, a link, the host, or the detector, which is not built yet. No event touches an absent
+/// part.
 #[derive(Drop)]
 pub struct Part<L: Link> {
     pub(crate) contents: Contents<L>,
@@ -97,6 +100,15 @@ impl<L: Link> Part<L> {
         }
     }
 
+    /// The host.
+    pub fn host(host: Host) -> Part<L>
+        ensures { result ≡ HostV host.now }
+    {
+        Part {
+            contents: Contents::Host(host),
+        }
+    }
+
     /// A part that is not built yet.
     pub fn absent() -> Part<L>
         ensures { result ≡ AbsentV }
@@ -114,6 +126,7 @@ impl<L: Link> Part<L> {
             Contents::Tile(tile) => Ok(Part::tile(tile.copy()?)),
             Contents::Router(router) => Ok(Part::router(router.copy()?)),
             Contents::Link(link) => Ok(Part::link(link.copy()?)),
+            Contents::Host(host) => Ok(Part::host(host.copy()?)),
             Contents::Absent => Ok(Part::absent()),
         }
     }
@@ -126,6 +139,7 @@ impl<L: Link> Part<L> {
             (Contents::Tile(a), Contents::Tile(b)) => a.same(b),
             (Contents::Router(a), Contents::Router(b)) => a.same(b),
             (Contents::Link(a), Contents::Link(b)) => a.same(b),
+            (Contents::Host(a), Contents::Host(b)) => a.same(b),
             (Contents::Absent, Contents::Absent) => true,
             _ => false,
         }
@@ -137,7 +151,7 @@ impl<L: Link> Part<L> {
     {
         match &self.contents {
             Contents::Tile(tile) => Some(tile),
-            Contents::Router(_) | Contents::Link(_) | Contents::Absent => None,
+            Contents::Router(_) | Contents::Link(_) | Contents::Host(_) | Contents::Absent => None,
         }
     }
 
@@ -147,7 +161,7 @@ impl<L: Link> Part<L> {
     {
         match &self.contents {
             Contents::Router(router) => Some(router),
-            Contents::Tile(_) | Contents::Link(_) | Contents::Absent => None,
+            Contents::Tile(_) | Contents::Link(_) | Contents::Host(_) | Contents::Absent => None,
         }
     }
 
@@ -157,7 +171,17 @@ impl<L: Link> Part<L> {
     {
         match &self.contents {
             Contents::Link(link) => Some(link),
-            Contents::Tile(_) | Contents::Router(_) | Contents::Absent => None,
+            Contents::Tile(_) | Contents::Router(_) | Contents::Host(_) | Contents::Absent => None,
+        }
+    }
+
+    /// The host that the part is.
+    pub fn as_host(&self) -> Option<&Host>
+        ensures { option_map (λ h. h.now.now) result ≡ host_of self.now }
+    {
+        match &self.contents {
+            Contents::Host(host) => Some(host),
+            Contents::Tile(_) | Contents::Router(_) | Contents::Link(_) | Contents::Absent => None,
         }
     }
 
@@ -180,7 +204,9 @@ impl<L: Link> Part<L> {
     {
         match &mut self.contents {
             Contents::Tile(tile) => turn_tile(tile, t, n),
-            Contents::Router(_) | Contents::Link(_) | Contents::Absent => Ok(Did::Nothing),
+            Contents::Router(_) | Contents::Link(_) | Contents::Host(_) | Contents::Absent => Ok(
+                Did::Nothing,
+            ),
         }
     }
 
@@ -200,7 +226,7 @@ impl<L: Link> Part<L> {
     {
         match &self.contents {
             Contents::Tile(tile) => tile.is_here(t) && tile.can_turn(t),
-            Contents::Router(_) | Contents::Link(_) | Contents::Absent => false,
+            Contents::Router(_) | Contents::Link(_) | Contents::Host(_) | Contents::Absent => false,
         }
     }
 
@@ -210,7 +236,7 @@ impl<L: Link> Part<L> {
     {
         match &self.contents {
             Contents::Tile(tile) => tile.is_here(t) && tile.can_deliver(t),
-            Contents::Router(_) | Contents::Link(_) | Contents::Absent => false,
+            Contents::Router(_) | Contents::Link(_) | Contents::Host(_) | Contents::Absent => false,
         }
     }
 
@@ -241,7 +267,7 @@ impl<L: Link> Part<L> {
         match &self.contents {
             Contents::Tile(tile) => offers_any(tile),
             Contents::Router(router) => sends_any(router),
-            Contents::Link(_) | Contents::Absent => false,
+            Contents::Link(_) | Contents::Host(_) | Contents::Absent => false,
         }
     }
 
@@ -251,7 +277,7 @@ impl<L: Link> Part<L> {
     {
         match &self.contents {
             Contents::Link(link) => link.front().is_some(),
-            Contents::Tile(_) | Contents::Router(_) | Contents::Absent => false,
+            Contents::Tile(_) | Contents::Router(_) | Contents::Host(_) | Contents::Absent => false,
         }
     }
 
@@ -261,7 +287,7 @@ impl<L: Link> Part<L> {
     {
         match &self.contents {
             Contents::Tile(tile) => end_on(tile, t),
-            Contents::Router(_) | Contents::Link(_) | Contents::Absent => None,
+            Contents::Router(_) | Contents::Link(_) | Contents::Host(_) | Contents::Absent => None,
         }
     }
 
@@ -271,11 +297,11 @@ impl<L: Link> Part<L> {
     {
         match &self.contents {
             Contents::Router(router) => router.ended().map(Outcome::BadKey),
-            Contents::Tile(_) | Contents::Link(_) | Contents::Absent => None,
+            Contents::Tile(_) | Contents::Link(_) | Contents::Host(_) | Contents::Absent => None,
         }
     }
 
-    /// Whether all threads of the part ended, and no message stands there.
+    /// Whether all threads of the part ended, and no message stands there; of the host, whether its script is at its end.
     pub(crate) fn is_over(&self) -> bool
         ensures { result ≡ is_over self.now }
     {
@@ -283,6 +309,7 @@ impl<L: Link> Part<L> {
             Contents::Tile(tile) => tile.still() && !tile.live(),
             Contents::Router(router) => router.still(),
             Contents::Link(link) => link.len() == 0,
+            Contents::Host(host) => host.at_end(),
             Contents::Absent => true,
         }
     }

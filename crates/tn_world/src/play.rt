@@ -1,14 +1,17 @@
 //! Runs of a machine on one thread.
 
-ghost use Rattle.std.specs.Prelude.{◌≡◌, ◌≤◌, ⊤, MatchOption, MatchResult, None, false};
+ghost use Rattle.std.specs.Prelude.{◌≡◌, ◌≢◌, ◌≤◌, MatchOption, MatchResult, None, false, ℕ, ⊤};
+ghost use Rattle.tn_base.specs.declared.event.Event.TheVariants as event;
+ghost use Rattle.tn_base.specs.declared.ids.ThreadId.{ThreadId};
 ghost use Rattle.tn_rows.specs.Events.{Rests, happened};
-ghost use Rattle.tn_world.specs.Plays.{Played, Reached, Told};
+ghost use Rattle.tn_world.specs.Plays.{MakesOr, Played, Reached, Told};
 
 use crate::agenda::Agenda;
 use crate::events::{enabled, final_of};
 use crate::world::World;
 use std::alloc::AllocError;
 use tn_base::event::Event;
+use tn_base::ids::ThreadId;
 use tn_link::link::Link;
 use tn_pages::stock::{FULL, PageStock};
 use tn_tile::deliver::Did;
@@ -27,8 +30,8 @@ pub fn play<L: Link>(world: &mut World<L>, limit: u64) -> Result<Vec<Event>, All
     let mut history = Vec::new(alloc);
     let mut stock = PageStock::of(alloc);
     while (history.len() as u64) < limit {
-        stock.reserve(FULL)?;
-        let Some(made) = next_move(world, &mut agenda, &mut stock) else {
+        let next = next_move(world, &mut agenda, &mut stock)?;
+        let Some(made) = next else {
             return Ok(history);
         };
         history.push(made.event)?;
@@ -51,55 +54,96 @@ fn next_move<L: Link>(
     world: &mut World<L>,
     agenda: &mut Agenda,
     stock: &mut PageStock,
-) -> Option<Made>
-    requires { 64 ≤ stock.old }
-    ensures { MatchOption result ((world.new ≡ world.old) × Rests world.old) (λ m. Told m.event m.ends world.old world.new) }
+) -> Result<Option<Made>, AllocError>
+    ensures { MakesOr result (Rests world.old) world.old world.new }
 {
-    if let Some(made) = try_agenda(world, agenda, stock) {
-        return Some(made);
+    match try_agenda(world, agenda, stock)? {
+        Some(made) => Ok(Some(made)),
+        None => make_first(world, agenda, stock),
     }
-    let event = enabled(world)?;
+}
+
+/// Makes the first event that is enabled; none where no event is.
+fn make_first<L: Link>(
+    world: &mut World<L>,
+    agenda: &mut Agenda,
+    stock: &mut PageStock,
+) -> Result<Option<Made>, AllocError>
+    ensures { MakesOr result (Rests world.old) world.old world.new }
+{
+    let Some(event) = enabled(world) else {
+        return Ok(None);
+    };
     agenda.mark_all();
     make(world, &event, stock)
 }
 
-/// The first event of the agenda that is enabled. If there is no such event, the stock stays full.
+/// The first event of the agenda that is enabled.
 fn try_agenda<L: Link>(
     world: &mut World<L>,
     agenda: &mut Agenda,
     stock: &mut PageStock,
-) -> Option<Made>
-    requires { 64 ≤ stock.old }
-    ensures event { MatchOption result (world.new ≡ world.old) (λ m. Told m.event m.ends world.old world.new) }
-    ensures stock { MatchOption result (64 ≤ stock.new) (λ _. ⊤) }
+) -> Result<Option<Made>, AllocError>
+    ensures { MakesOr result ⊤ world.old world.new }
 {
     for _ in 0..MOST_TRIES {
-        let tried = agenda.next(world)?;
-        if let Some(made) = make(world, &tried, stock) {
+        let Some(tried) = agenda.next(world) else {
+            return Ok(None);
+        };
+        if let Some(made) = make(world, &tried, stock)? {
             agenda.happened(&made.event);
-            return Some(made);
+            return Ok(Some(made));
         }
     }
-    None
+    Ok(None)
 }
 
-/// Makes an event if it is enabled; a turn becomes the longest turn of its thread. If no event is made, the stock stays full.
-fn make<L: Link>(world: &mut World<L>, e: &Event, stock: &mut PageStock) -> Option<Made>
-    requires { 64 ≤ stock.old }
-    ensures event { MatchOption result ((world.new ≡ world.old) × (happened e.now world.old ≡ None)) (λ m. Told m.event m.ends world.old world.new) }
-    ensures stock { MatchOption result (64 ≤ stock.new) (λ _. ⊤) }
+/// Makes an event if it is enabled; a turn becomes the longest turn of its thread. The pages that a turn writes first and a letter
+/// for the host may want memory.
+#[inline(always)]
+fn make<L: Link>(
+    world: &mut World<L>,
+    e: &Event,
+    stock: &mut PageStock,
+) -> Result<Option<Made>, AllocError>
+    ensures { MakesOr result (happened e.now world.old ≡ None) world.old world.new }
 {
     match *e {
         Event::Turn(t, _) => {
-            let last = world.turn(t, stock);
-            match last.turned {
-                Turned::Moved(n) => Some(Made {
-                    event: Event::Turn(t, n),
-                    ends: last.ends,
-                }),
-                Turned::Nothing => None,
-            }
+            stock.reserve(FULL)?;
+            Ok(make_turn(world, t, stock))
         }
+        Event::HostTake => {
+            let did = world.host_take()?;
+            Ok(went_on(did, *e))
+        }
+        _ => Ok(make_without(world, e)),
+    }
+}
+
+/// Makes the longest turn of a thread with pages of a full stock, if a turn is enabled.
+#[inline(always)]
+fn make_turn<L: Link>(world: &mut World<L>, t: ThreadId, stock: &mut PageStock) -> Option<Made>
+    requires { 64 ≤ stock.old }
+    ensures { MatchOption result ((world.new ≡ world.old) × ((n : ℕ) → happened (event.Turn t n) world.old ≡ None)) (λ m. Told m.event m.ends world.old world.new) }
+{
+    let last = world.turn(t, stock);
+    match last.turned {
+        Turned::Moved(n) => Some(Made {
+            event: Event::Turn(t, n),
+            ends: last.ends,
+        }),
+        Turned::Nothing => None,
+    }
+}
+
+/// Makes an event that wants no memory, if it is enabled.
+fn make_without<L: Link>(world: &mut World<L>, e: &Event) -> Option<Made>
+    requires turn { (t : ThreadId) (n : ℕ) → e.now ≢ event.Turn t n }
+    requires take { e.now ≢ event.HostTake }
+    ensures { MatchOption result ((world.new ≡ world.old) × (happened e.now world.old ≡ None)) (λ m. Told m.event m.ends world.old world.new) }
+{
+    match *e {
         Event::Deliver(t) => went_on(world.deliver(t), *e),
         Event::Depart(p, l) => went_on(world.depart(p, l), *e),
         Event::Arrive(l, p) => went_on(world.arrive(l, p), *e),
@@ -107,6 +151,7 @@ fn make<L: Link>(world: &mut World<L>, e: &Event, stock: &mut PageStock) -> Opti
             let did = world.route(p);
             told(did, *e, final_of(world, e).is_some())
         }
+        Event::HostPut => went_on(world.host_put(), *e),
         _ => None,
     }
 }

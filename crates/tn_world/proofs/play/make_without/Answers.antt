@@ -6,10 +6,10 @@ use Rattle.tn_rows.specs.Events.{happened}
 use Rattle.tn_rows.specs.Runs.{IsLongest}
 use Rattle.tn_tile.specs.Turns.{moved}
 use Rattle.tn_world.proofs.Calm.{makes}
-use Rattle.tn_world.proofs.play.make.Goals as goal
+use Rattle.tn_world.proofs.play.make_without.Goals as goal
 
-pub returns-in-Route-clause-event : goal.returns-in-Route-clause-event
-returns-in-Route-clause-event g c =
+pub returns-in-Route : goal.returns-in-Route
+returns-in-Route g c =
     let old = c.args.world.now in
     let new = c.route-did.new.self in
     let longest : IsLongest c.args.e.now old = subst (λ (e : Event). IsLongest e old) (sym c.in-Route.is) tt in
