@@ -6,7 +6,7 @@ use Rattle.std.specs.List.{AllByRecursion, slice_index}
 use Rattle.std.specs.Str.{bytes_eq}
 use Rattle.std.proofs.lemmas.Bool.{cases_Bool, leb-true, eqb-true, and_parts}
 use Rattle.tn_text.specs.Hex.{hex_bytes_of}
-use Rattle.tn_text.specs.Lines.{lines_of}
+use Rattle.tn_text.specs.Lines.{lines_of, feed}
 use Rattle.tn_text.specs.NumberLists.{numbers_in, numbers_of}
 use Rattle.tn_text.specs.Numbers.{number_of}
 use Rattle.tn_text.specs.Words.{is_some_text, words_of, one_of, two_of, three_of}
@@ -23,7 +23,6 @@ use Rattle.job_text.specs.declared.keyword.Keyword.TheVariants.{Number, Code, As
 use Rattle.job_text.specs.declared.keyword.Setting.TheVariants.{Slots, Link, Mem, Fuel, Turn}
 use Rattle.job_text.specs.Arguments.{◌>>=◌, given, tile_owner, owner_by, owner_in, pair_in}
 use Rattle.job_text.specs.Keyword.{keyword_of}
-use Rattle.job_text.specs.Printed.{feed}
 use Rattle.job_text.specs.SectionLines.{code_head, asm_head, table_head, graph_head, fill_bytes, fill_by, scripted, send_bytes, send_by, idle_line, host_line, section_begun}
 use Rattle.job_text.specs.WellFormed.{IsOwner, IsTextLine, IsSection}
 use Rattle.job_text.proofs.Bytes.{one_fits, numbers_fit, numbers_in_fit, given_is, index_fits, bytes_fit, bytes_some}

@@ -1,4 +1,3 @@
-pub mod Words
 pub mod Names
 pub mod Sections
 pub mod WholeLines

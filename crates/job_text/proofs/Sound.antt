@@ -13,7 +13,7 @@ use Rattle.tn_text.specs.declared.stop.Stop.{Stop}
 use Rattle.tn_text.specs.Content.{content_of, is_plain}
 use Rattle.tn_text.specs.Gives.{Gives}
 use Rattle.tn_text.specs.Hex.{hex_array_of, hex_word_of}
-use Rattle.tn_text.specs.Lines.{lines_of}
+use Rattle.tn_text.specs.Lines.{lines_of, feed}
 use Rattle.tn_text.specs.NumberLists.{numbers_in}
 use Rattle.tn_text.specs.Numbers.{number_of}
 use Rattle.tn_text.specs.Reading.{and_on}
@@ -40,7 +40,6 @@ use Rattle.job_text.specs.Arguments.{◌>>=◌, number_by, number_in}
 use Rattle.job_text.specs.Keyword.{keyword_of, setting_in, with_setting}
 use Rattle.job_text.specs.Named.{is_named, nothing_named, section_named, subject_of}
 use Rattle.job_text.specs.Numbered.{AreNumbered, IsNumbered}
-use Rattle.job_text.specs.Printed.{feed}
 use Rattle.job_text.specs.SectionLines.{is_whole, section_begun, word_added, word_by, word_line, beat_added, beat_by, beat_line, text_added, with_line}
 use Rattle.job_text.specs.Sections.{job_sections, with_section}
 use Rattle.job_text.specs.Text.{version_number, version_by, headed, header_line, shaped, shape_line, set_once, takes_settings, setting_line, closed, opened, opened_by, begun, going_on, inside_line, keyword_line, entry_line, content_line, bare, step, start, drafted, ended, job_by, job_of}

@@ -7,7 +7,7 @@ use Rattle.tn_call.specs.Streams.{Streams}
 use Rattle.tn_call.specs.declared.status.Status.{Status}
 use Rattle.tn_call.specs.declared.status.Status.TheVariants.{BadKey, Done, Jammed, Memory, Refused, Spent, Trapped}
 use Rattle.tn_text.specs.Content.{content_of}
-use Rattle.tn_text.specs.Hex.{hex_word_of, hex_word_text}
+use Rattle.tn_text.specs.Hex.{hex_word_of, words_text}
 use Rattle.tn_text.specs.Lines.{lines_of}
 use Rattle.tn_words.specs.declared.command.Command.{Command}
 use Rattle.tn_words.specs.declared.command.Command.TheVariants as command
@@ -51,14 +51,6 @@ abbrev pub reads_all : TextCommand → Bool
 reads_all command = true
 
 -- From assembly to words.
-
--- a word in eight lower-case hexadecimal digits
-abbrev pub word_line : ℕ → List ℕ
-word_line word = hex_word_text word ++ codes "\n"
-
-abbrev pub words_text : List ℕ → List ℕ
-words_text [] = []
-words_text (word ∷ words) = word_line word ++ words_text words
 
 abbrev pub asm_by : Result Image (Fault AsmKind) → Result (List ℕ) LoadFault
 asm_by (Ok image) = Ok (words_text image.words)

@@ -4,7 +4,7 @@ ghost use Rattle.job_load.specs.Loaded.{mapped};
 ghost use Rattle.job_text.specs.Numbered.{AreNumbered};
 ghost use Rattle.job_text.specs.WellFormed.{IsWellFormed};
 ghost use Rattle.tn_call.specs.Number.{tells};
-ghost use Rattle.tn_run.specs.Texts.{Anything, Makes, made_by, map_by, onto, reads_all, shown_line, shown_text, text_answer, text_in, word_line, words_text};
+ghost use Rattle.tn_run.specs.Texts.{Anything, Makes, made_by, map_by, onto, reads_all, shown_line, shown_text, text_answer, text_in};
 ghost use Rattle.tn_run.specs.declared.texts.TextCommand.{TextCommand};
 
 use crate::refusal::refused;
@@ -23,7 +23,7 @@ use tn_call::status::Status;
 use tn_text::content::content;
 use tn_text::hex::hex_word;
 use tn_text::lines::{first_line, law_line_count};
-use tn_text::print::push_hex_word;
+use tn_text::print::push_words;
 use tn_words::command::Command;
 
 /// A command that reads a text and writes another.
@@ -39,24 +39,6 @@ pub enum TextCommand {
 
 /// What serves the commands on texts.
 pub(crate) struct TextService;
-
-/// Appends a word in eight lower-case hexadecimal digits.
-fn push_word(text: &mut Vec<u8>, word: u32) -> Result<(), AllocError>
-    ensures { OnOk result (text.new.items ≡ text.old.items ++ word_line word) }
-{
-    push_hex_word(text, word)?;
-    text.extend_from_slice(b"\n")?;
-    Ok(())
-}
-
-fn push_words(text: &mut Vec<u8>, words: &[u32]) -> Result<(), AllocError>
-    ensures { OnOk result (text.new.items ≡ text.old.items ++ words_text words.now) }
-{
-    for word in words {
-        push_word(text, *word)?;
-    }
-    Ok(())
-}
 
 /// Appends the words of a text of assembly.
 fn push_assembled(alloc: Global, text: &mut Vec<u8>, input: &[u8]) -> Result<(), LoadStop>
