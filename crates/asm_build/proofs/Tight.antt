@@ -1,12 +1,10 @@
 -- Lines of a name and arguments, and what reading makes of them.
-use Rattle.std.proofs.Common.{◌≡◌, ℕ, ◌+◌, ◌<◌, Bool, true, false, not, ◌&&◌, eqb, List, [], ◌∷◌, ◌++◌, None, length, take, drop, flat_map, refl, sym, ap, ◌∙◌, subst, arith, take_all, append-nil, append_assoc, one-add}
-use Rattle.std.specs.List.{list_all, prefix_len, onto_first}
-use Rattle.std.proofs.lemmas.Bool.{and_parts, and_from}
+use Rattle.std.proofs.Common.{◌≡◌, ℕ, Bool, true, not, ◌&&◌, eqb, List, [], ◌∷◌, ◌++◌, None, flat_map, refl, sym, ap, ◌∙◌, subst, arith, append-nil, append_assoc}
+use Rattle.std.specs.List.{list_all, onto_first}
+use Rattle.std.proofs.lemmas.Bool.{and_from}
 use Rattle.std.proofs.lemmas.Bool.Decides.{nat_tests}
-use Rattle.std.proofs.lemmas.Grind.{common_steps}
 use Rattle.std.proofs.lemmas.List.Folds.{list_all-append}
-use Rattle.tn_text.specs.Content.{is_space, before_comment, trimmed, without_front_spaces, without_back_spaces}
-use Rattle.tn_text.specs.Lines.{lines_of}
+use Rattle.tn_text.specs.Content.{trimmed}
 use Rattle.tn_text.specs.Words.{is_some_text, words_of, spaced}
 use Rattle.tn_text.specs.Cut.{lacks, cut_at, parts_at}
 use Rattle.tn_text.proofs.Clean.{clean, IsLine, IsWord, AreWords, all_pass, line_of_words, trimmed_behind, trimmed_line, word_line, words_of-line}

@@ -11,3 +11,4 @@ pub mod Heads
 pub mod Inside
 pub mod Whole
 pub mod ReadBack
+pub mod Exchanged

@@ -5,6 +5,7 @@ pub mod Keyword
 pub mod SectionLines
 pub mod Text
 pub mod Contents
+pub mod Exchanged
 pub mod Numbered
 pub mod Printed
 pub mod WellFormed
