@@ -1,5 +1,5 @@
 -- Settings on neighbouring lines may change places.
-use Rattle.std.proofs.Common.{◌≡◌, ◌⊎◌, ℕ, ◌+◌, ◌<◌, ◌≤◌, Bool, true, false, eqb, cond, List, [], ◌∷◌, ◌++◌, Option, Some, None, length, codes, refl, sym, ap, subst, ◌∙◌, ⊎_elim, inl, inr, arith, length-append}
+use Rattle.std.proofs.Common.{◌≡◌, ◌⊎◌, ℕ, ◌+◌, ◌<◌, Bool, true, false, eqb, cond, List, [], ◌∷◌, ◌++◌, Option, Some, None, length, codes, refl, sym, ap, subst, ◌∙◌, ⊎_elim, inl, inr, arith, length-append}
 use Rattle.std.specs.declared.result.Result.{Result}
 use Rattle.std.specs.declared.result.Result.TheVariants.{Ok, Err}
 use Rattle.std.specs.Str.{bytes_eq}
@@ -9,7 +9,6 @@ use Rattle.tn_base.specs.declared.shape.ShapeNumbers.{ShapeNumbers}
 use Rattle.tn_text.specs.declared.numbers.Numeral.{Numeral}
 use Rattle.tn_text.specs.declared.numbers.Numeral.TheVariants.{Value, TooLarge, NoNumber}
 use Rattle.tn_text.specs.declared.stop.Fault.{Fault}
-use Rattle.tn_text.specs.Content.{content_of}
 use Rattle.tn_text.specs.Gives.{fault_on}
 use Rattle.tn_text.specs.NumberLists.{numbers_in}
 use Rattle.tn_text.specs.Reading.{and_on}
@@ -38,12 +37,12 @@ use Rattle.job_text.proofs.Sound.{on_ok, set_version, shape_low}
 
 -- One setting beside another.
 
-record Apart (s t : Setting) : Type 0 where
+pub record Apart (s t : Setting) : Type 0 where
   pub kept : (n : ℕ) (l : ShapeNumbers) → setting_in s (with_setting t n l) ≡ setting_in s l
   pub back : (n : ℕ) (l : ShapeNumbers) → setting_in t (with_setting s n l) ≡ setting_in t l
   pub swapped : (a b : ℕ) (l : ShapeNumbers) → with_setting s a (with_setting t b l) ≡ with_setting t b (with_setting s a l)
 
-apart : (s t : Setting) → (s ≡ t) ⊎ Apart s t
+pub apart : (s t : Setting) → (s ≡ t) ⊎ Apart s t
 apart Slots Slots = inl refl
 apart Slots Link = inr (record { kept = λ n l. refl; back = λ n l. refl; swapped = λ a b l. refl })
 apart Slots Mem = inr (record { kept = λ n l. refl; back = λ n l. refl; swapped = λ a b l. refl })
@@ -70,7 +69,7 @@ apart Turn Mem = inr (record { kept = λ n l. refl; back = λ n l. refl; swapped
 apart Turn Fuel = inr (record { kept = λ n l. refl; back = λ n l. refl; swapped = λ a b l. refl })
 apart Turn Turn = inl refl
 
-own : (s : Setting) (n : ℕ) (l : ShapeNumbers) → setting_in s (with_setting s n l) ≡ n
+pub own : (s : Setting) (n : ℕ) (l : ShapeNumbers) → setting_in s (with_setting s n l) ≡ n
 own Slots n l = refl
 own Link n l = refl
 own Mem n l = refl
@@ -78,16 +77,16 @@ own Fuel n l = refl
 own Turn n l = refl
 
 -- the setting is not given yet: its line is that of the shape
-abbrev is_open : Setting → ShapeNumbers → Bool
+abbrev pub is_open : Setting → ShapeNumbers → Bool
 is_open s l = eqb (setting_in s l) l.version
 
 not_equal : (n m : ℕ) → m < n → eqb n m ≡ false
 not_equal n m h = grind (arith, nat_tests)
 
-open_kept : (s t : Setting) (n : ℕ) (l : ShapeNumbers) → setting_in s (with_setting t n l) ≡ setting_in s l → is_open s (with_setting t n l) ≡ is_open s l
+pub open_kept : (s t : Setting) (n : ℕ) (l : ShapeNumbers) → setting_in s (with_setting t n l) ≡ setting_in s l → is_open s (with_setting t n l) ≡ is_open s l
 open_kept s t n l e = let v = set_version t n l in rw (e, v) refl
 
-open_own : (s : Setting) (n : ℕ) (l : ShapeNumbers) → l.version < n → is_open s (with_setting s n l) ≡ false
+pub open_own : (s : Setting) (n : ℕ) (l : ShapeNumbers) → l.version < n → is_open s (with_setting s n l) ≡ false
 open_own s n l h = let e = own s n l in let v = set_version s n l in rw (e, v) (not_equal n l.version h)
 
 -- Drafts that differ in the numbers of lines alone.
@@ -155,7 +154,7 @@ shape_alike d m n (w ∷ ws) h =
     alike_if (bytes_eq w (codes "shape")) (shaped d n (numbers_in 6 ws)) (Err NoShape) (shaped (relined d m) n (numbers_in 6 ws)) (Err NoShape)
     (shaped_alike d m n (numbers_in 6 ws) h) tt
 
-abbrev set_to : Draft → ℕ → Setting → ℕ → Draft
+abbrev pub set_to : Draft → ℕ → Setting → ℕ → Draft
 set_to d n s v = record d { job = record d.job { numbers = with_setting s v d.job.numbers; number_lines = with_setting s n d.job.number_lines } }
 
 once_alike : (d : Draft) (m : ShapeNumbers) (n : ℕ) (s : Setting) (v : ℕ) → SameSet d.job.number_lines m → Alike (set_once d n s v) (set_once (relined d m) n s v)
@@ -302,10 +301,10 @@ both_same l n s t a low = record {
   set = λ u. ⊎_elim
       (λ e. ap (λ (x : Setting). is_open x (both_set l n s t)) e ∙ shut_first l n s t a low ∙ sym (shut_second l n t s low) ∙ ap (λ (x : Setting). is_open x (both_set l n t s)) (sym e))
       (λ (p : Apart u s). ⊎_elim
-          (λ e. ap (λ (x : Setting). is_open x (both_set l n s t)) e ∙ shut_second l n s t low ∙ sym (shut_first l n t s (turned a) low) ∙ ap (λ (x : Setting). is_open x (both_set l n t s)) (sym e))
-          (λ (q : Apart u t). open_kept u t (n + 1) (with_setting s n l) (q.kept (n + 1) (with_setting s n l)) ∙ open_kept u s n l (p.kept n l)
-              ∙ sym (open_kept u t n l (q.kept n l)) ∙ sym (open_kept u s (n + 1) (with_setting t n l) (p.kept (n + 1) (with_setting t n l))))
-          (apart u t))
+      (λ e. ap (λ (x : Setting). is_open x (both_set l n s t)) e ∙ shut_second l n s t low ∙ sym (shut_first l n t s (turned a) low) ∙ ap (λ (x : Setting). is_open x (both_set l n t s)) (sym e))
+      (λ (q : Apart u t). open_kept u t (n + 1) (with_setting s n l) (q.kept (n + 1) (with_setting s n l)) ∙ open_kept u s n l (p.kept n l)
+      ∙ sym (open_kept u t n l (q.kept n l)) ∙ sym (open_kept u s (n + 1) (with_setting t n l) (p.kept (n + 1) (with_setting t n l))))
+      (apart u t))
       (apart u s);
 }
 

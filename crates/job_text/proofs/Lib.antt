@@ -12,3 +12,5 @@ pub mod Inside
 pub mod Whole
 pub mod ReadBack
 pub mod Exchanged
+pub mod SaidSections
+pub mod SaidNumbers

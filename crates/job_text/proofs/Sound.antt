@@ -73,7 +73,7 @@ open_at _ = []
 abbrev pub SoundAt : ℕ → Draft → Type 0
 SoundAt n d = Sound n d.job d.named (open_at d.place)
 
-ok_has : {A : Type 0} (P : A → Type 0) (x y : A) → P x → ◌≡◌ {A = Result A JobKind} (Ok x) (Ok y) → P y
+pub ok_has : {A : Type 0} (P : A → Type 0) (x y : A) → P x → ◌≡◌ {A = Result A JobKind} (Ok x) (Ok y) → P y
 ok_has P x y h e = let same : x ≡ y = cc in subst P same h
 
 -- One line later.
@@ -96,7 +96,7 @@ sound_later n job named ss h = record {
   low = omega (arith, h.low);
 }
 
-at_place : (n : ℕ) (d : Draft) (p : Place) → d.place ≡ p → SoundAt n d → Sound n d.job d.named (open_at p)
+pub at_place : (n : ℕ) (d : Draft) (p : Place) → d.place ≡ p → SoundAt n d → Sound n d.job d.named (open_at p)
 at_place n d p e h = subst (λ (q : Place). Sound n d.job d.named (open_at q)) e h
 
 -- The header.
@@ -206,11 +206,11 @@ head_with job (section.Table t) h = h
 head_with job (section.Script l) h = h
 head_with job (section.Graph s) h = h
 
-is_free : (job : Job) (s : Section) (b : Bool) → counted TheGraph (job_sections job) + counted TheGraph (s ∷ []) ≡ one b → IsFree job s
+pub is_free : (job : Job) (s : Section) (b : Bool) → counted TheGraph (job_sections job) + counted TheGraph (s ∷ []) ≡ one b → IsFree job s
 is_free job (section.Graph s) b h = graph_none job (omega (arith, h, one_most b))
 is_free job _ b h = tt
 
-lines_with : (job : Job) (s : Section) → (with_section job s).number_lines ≡ job.number_lines
+pub lines_with : (job : Job) (s : Section) → (with_section job s).number_lines ≡ job.number_lines
 lines_with job (section.Code s) = refl
 lines_with job (section.Asm s) = refl
 lines_with job (section.Fill f) = refl
@@ -379,7 +379,7 @@ take_content AtSections d e m l p line h t =
     take_entry d e (m + 1) l (words_of l) refl (words_some l) line (sound_later m d.job d.named (open_at d.place) h) (sound_later m d.job d.named [] (at_place m d AtSections p h)) t
 take_content (Inside s) d e m l p line h t = take_inside m d.job d.named s l e line (at_place m d (Inside s) p h) t
 
-take_line : (d e : Draft) (m : ℕ) (l : List ℕ) → SoundAt m d → step (m + 1) (bare l) d ≡ Ok e → SoundAt (m + 1) e
+pub take_line : (d e : Draft) (m : ℕ) (l : List ℕ) → SoundAt m d → step (m + 1) (bare l) d ≡ Ok e → SoundAt (m + 1) e
 take_line d e m l h t =
     ⊎_elim (λ f. let k : content_line d.place d (m + 1) (content_of l) ≡ Ok e = rw f at t in take_content d.place d e m (content_of l) refl (content_good l f) h k)
     (λ f. let k = rw f at t in cc) (cases_Bool (is_plain l))
@@ -405,7 +405,7 @@ nothing (TileCode t) = refl
 nothing (BoardTable x y) = refl
 nothing TheGraph = refl
 
-start_sound : SoundAt 0 start
+pub start_sound : SoundAt 0 start
 start_sound = record {
   head = record {
     version = inl refl;
