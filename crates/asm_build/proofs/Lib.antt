@@ -1,6 +1,5 @@
 pub mod LabelLemmas
 pub mod Fits
-pub mod Lacks
 pub mod Tight
 pub mod Operands
 pub mod FieldsBack

@@ -18,20 +18,19 @@ use Rattle.tn_text.specs.Content.{trimmed}
 use Rattle.tn_text.specs.Names.{is_name}
 use Rattle.tn_text.specs.Numbers.{number_of, numeral_of, signed_number_of, positive, negative}
 use Rattle.tn_text.specs.Words.{is_some_text}
-use Rattle.tn_text.proofs.Printed.{decimal_read_back}
+use Rattle.tn_text.proofs.Printed.{decimal_read_back, digit_back, not_x}
+use Rattle.tn_text.proofs.PrintedWords.{some_from}
 use Rattle.asm_text.specs.declared.line.Arg.TheVariants.{Reg, Num, Name, Mem}
 use Rattle.asm_text.specs.Arguments.{arg_by, arg_of, memory_of, memory_by, with_base, base_of, base_by}
 use Rattle.asm_text.specs.Registers.{register_of}
 use Rattle.asm_build.specs.Shown.{register_text, memory_text, control_text}
-use Rattle.asm_build.proofs.Lacks.{lacks, cut_found}
+use Rattle.tn_text.specs.Cut.{lacks}
+use Rattle.tn_text.proofs.Parts.{cut_found}
 use Rattle.asm_build.proofs.Tight.{tight, IsTight, word_trimmed}
 
 both_false : (b : Bool) → (b && false) ≡ false
 both_false true = refl
 both_false false = refl
-
-not_x : (b : ℕ) → digit_value b < 10 → eqb b 120 ≡ false
-not_x b h = grind (arith, nat_tests)
 
 -- Registers.
 
@@ -89,10 +88,6 @@ digit_tight b h = grind (arith, nat_tests)
 digits_tight : (ds : List ℕ) → AllDigits 10 ds → list_all tight ds ≡ true
 digits_tight [] h = refl
 digits_tight (d ∷ ds) h = and_from (tight d) (list_all tight ds) (digit_tight d h.0) (digits_tight ds h.1)
-
-some_from : (w : List ℕ) → 0 < length w → is_some_text w ≡ true
-some_from [] h = absurd (omega arith)
-some_from (b ∷ bs) h = refl
 
 -- a text of digits
 record IsDigits (ds : List ℕ) : Type 0 where
@@ -157,9 +152,6 @@ decimal_arg n h =
     number_arg (decimal n) (pos n) (ap register_of (sym (append-nil (decimal n))) ∙ digits_none (decimal n) [] (decimal_digits n h)) (decimal_back n h)
 
 -- Control registers.
-
-digit_back : (d : ℕ) → d < 16 → digit_value (digit_char d) ≡ d
-digit_back d h = ⊎_elim (λ low. grind (arith, nat_tests)) (λ high. grind (arith, nat_tests)) (cases_lt d 10)
 
 pub char_tight : (d : ℕ) → d < 16 → tight (digit_char d) ≡ true
 char_tight d h = ⊎_elim (λ low. grind (arith, nat_tests)) (λ high. grind (arith, nat_tests)) (cases_lt d 10)

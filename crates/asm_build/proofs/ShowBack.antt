@@ -9,7 +9,7 @@ use Rattle.std.proofs.lemmas.Bool.{cases_Bool, and_parts, eqb-true, lt-ltb}
 use Rattle.tn_text.specs.declared.numbers.Numeral.TheVariants.{Value}
 use Rattle.tn_text.specs.Hex.{is_hex_digit, hex_word_of, hex_word_text}
 use Rattle.tn_text.specs.Numbers.{numeral_of, signed_number_of, positive}
-use Rattle.tn_text.proofs.Clean.{IsLine, content_line_is, plain_line}
+use Rattle.tn_text.proofs.Clean.{IsLine, content_line_is, plain_line, some_bytes, trimmed_behind, without_front_is}
 use Rattle.tn_text.proofs.Printed.{hex_word_read_back}
 use Rattle.tn_text.proofs.Says.{line_said}
 use Rattle.tn_text.specs.Content.{trimmed}
@@ -27,14 +27,14 @@ use Rattle.asm_text.specs.declared.line.Body.{Body}
 use Rattle.asm_text.specs.declared.line.Body.TheVariants.{Ins, Word}
 use Rattle.asm_text.specs.declared.line.Line.{Line}
 use Rattle.asm_text.specs.Arguments.{arg_of, arg_before, args_of, args_in}
-use Rattle.asm_text.specs.Cut.{parts_at}
+use Rattle.tn_text.specs.Cut.{parts_at}
 use Rattle.asm_text.specs.Statement.{word_by as word_number_by, word_body, named, instruction_of, body_by, body_of, with_body, labelled, line_by, line_of}
 use Rattle.asm_build.specs.declared.code.Code.TheVariants.{One}
 use Rattle.asm_build.specs.Code.{word_by, word_for, one, op_by, code_by, code_of}
 use Rattle.asm_build.specs.Fields.{fields_of}
 use Rattle.asm_build.specs.Shown.{more_operands, operand_text, text_of, operands_of, shown_instr, unknown_text, shown_by, shown}
 use Rattle.asm_build.specs.Spelling.{name_of, form_of, op_named, pseudo_named}
-use Rattle.asm_build.proofs.Tight.{IsTight, AreTight, some_bytes, text_line, text_words, more_line, no_label, without_front_is, trimmed_behind, word_trimmed, word_trimmed_behind, behind_space, parts_are}
+use Rattle.asm_build.proofs.Tight.{IsTight, AreTight, text_line, text_words, more_line, no_label, word_trimmed, word_trimmed_behind, behind_space, parts_are}
 use Rattle.asm_build.proofs.Operands.{char_tight}
 use Rattle.asm_build.proofs.FieldsBack.{fits_form, form_args, fields_with, form_fields, Reads, form_reads}
 

@@ -6,7 +6,7 @@ use Rattle.std.proofs.lemmas.Bool.{le-leb}
 use Rattle.tn_text.specs.declared.stop.Fault.{Fault}
 use Rattle.tn_text.specs.Lines.{lines_of}
 use Rattle.tn_text.specs.Reading.{said_before}
-use Rattle.tn_text.proofs.Clean.{IsLine, lines_of-line}
+use Rattle.tn_text.proofs.Clean.{IsLine, lines_of-line, one_line}
 use Rattle.rv_isa.specs.Decode.{decode_of}
 use Rattle.asm_text.specs.declared.fault.AsmKind.{AsmKind}
 use Rattle.asm_text.specs.declared.line.Body.{Body}
@@ -19,7 +19,6 @@ use Rattle.asm_build.specs.Code.{code_of}
 use Rattle.asm_build.specs.Image.{limited, line_code, grown, and_then, known_after, size_of, places_after, image_after, empty_image}
 use Rattle.asm_build.specs.Text.{image_by, assembled}
 use Rattle.asm_build.specs.Shown.{shown, shown_line, shown_text}
-use Rattle.asm_build.proofs.Tight.{one_line}
 use Rattle.asm_build.proofs.ShowBack.{line_with, body_shown, shows}
 
 -- Lines.

@@ -1,18 +1,15 @@
 -- Lines of a name and arguments, and what reading makes of them.
-use Rattle.std.proofs.Common.{◌≡◌, ℕ, ◌+◌, ◌<◌, Bool, true, false, not, ◌&&◌, eqb, List, [], ◌∷◌, ◌++◌, None, length, take, drop, flat_map, refl, sym, ap, ◌∙◌, subst, arith, take_all, append-nil, append_assoc, one-add}
-use Rattle.std.specs.List.{list_all, prefix_len, onto_first}
-use Rattle.std.proofs.lemmas.Bool.{and_parts, and_from}
+use Rattle.std.proofs.Common.{◌≡◌, ℕ, Bool, true, not, ◌&&◌, eqb, List, [], ◌∷◌, ◌++◌, None, flat_map, refl, sym, ap, ◌∙◌, subst, arith, append-nil, append_assoc}
+use Rattle.std.specs.List.{list_all, onto_first}
+use Rattle.std.proofs.lemmas.Bool.{and_from}
 use Rattle.std.proofs.lemmas.Bool.Decides.{nat_tests}
-use Rattle.std.proofs.lemmas.Grind.{common_steps}
 use Rattle.std.proofs.lemmas.List.Folds.{list_all-append}
-use Rattle.tn_text.specs.Content.{is_space, before_comment, trimmed, without_front_spaces, without_back_spaces}
-use Rattle.tn_text.specs.Lines.{lines_of}
+use Rattle.tn_text.specs.Content.{trimmed}
 use Rattle.tn_text.specs.Words.{is_some_text, words_of, spaced}
-use Rattle.tn_text.proofs.FirstLine.{lines_of-parted}
-use Rattle.tn_text.proofs.Clean.{clean, line_byte, begins_clean, IsLine, IsWord, AreWords, content_line_is, line_of_words, words_of-line}
-use Rattle.asm_text.specs.Cut.{cut_at, parts_at}
+use Rattle.tn_text.specs.Cut.{lacks, cut_at, parts_at}
+use Rattle.tn_text.proofs.Clean.{clean, IsLine, IsWord, AreWords, all_pass, line_of_words, trimmed_behind, trimmed_line, word_line, words_of-line}
+use Rattle.tn_text.proofs.Parts.{lacks_both, cut_none, part_whole, part_first}
 use Rattle.asm_build.specs.Shown.{more_operands, operand_text, text_of}
-use Rattle.asm_build.proofs.Lacks.{lacks, lacks_all, lacks_both, cut_none, part_whole, part_first}
 
 -- a byte of a name or an argument: neither a comma nor a colon
 abbrev pub tight : ℕ → Bool
@@ -26,10 +23,6 @@ abbrev pub AreTight : List (List ℕ) → Type 0
 AreTight [] = Unit {0}
 AreTight (w ∷ ws) = IsTight w × AreTight ws
 
-all_pass : (p q : ℕ → Bool) → ((b : ℕ) → p b ≡ true → q b ≡ true) → (w : List ℕ) → list_all p w ≡ true → list_all q w ≡ true
-all_pass p q f [] h = refl
-all_pass p q f (b ∷ bs) h = let both = and_parts (p b) (list_all p bs) h in and_from (q b) (list_all q bs) (f b both.0) (all_pass p q f bs both.1)
-
 tight-clean : (b : ℕ) → tight b ≡ true → clean b ≡ true
 tight-clean b h = grind (arith, nat_tests)
 
@@ -38,12 +31,6 @@ tight-comma b h = grind (arith, nat_tests)
 
 tight-colon : (b : ℕ) → tight b ≡ true → not (eqb b 58) ≡ true
 tight-colon b h = grind (arith, nat_tests)
-
-line_byte-hash : (b : ℕ) → line_byte b ≡ true → not (eqb b 35) ≡ true
-line_byte-hash b h = grind (arith, nat_tests)
-
-clean-space : (b : ℕ) → clean b ≡ true → is_space b ≡ false
-clean-space b h = grind (arith, nat_tests)
 
 lacks_comma : (w : List ℕ) → IsTight w → lacks 44 w ≡ true
 lacks_comma w h = all_pass tight (λ b. not (eqb b 44)) tight-comma w h.bytes
@@ -115,52 +102,13 @@ lacks_operands (w ∷ ws) hs = lacks_both 58 w (more_operands ws) (lacks_colon w
 pub no_label : (w : List ℕ) (ws : List (List ℕ)) → IsTight w → AreTight ws → cut_at 58 (text_of w ws) ≡ None
 no_label w ws h hs = cut_none 58 (text_of w ws) (lacks_both 58 w (operand_text ws) (lacks_colon w h) (lacks_operands ws hs))
 
-pub some_bytes : (l : List ℕ) → begins_clean l ≡ true → 0 < length l
-some_bytes [] h = cc
-some_bytes (b ∷ bs) h = omega arith
-
-line_byte-feed : (b : ℕ) → line_byte b ≡ true → not (eqb b 10) ≡ true
-line_byte-feed b h = grind (arith, nat_tests)
-
--- a text without a line feed is one line
-pub one_line : (l : List ℕ) → IsLine l → lines_of l ≡ l ∷ []
-one_line l h =
-    let e = lacks_all 10 l (all_pass line_byte (λ b. not (eqb b 10)) line_byte-feed l h.bytes) in
-    let front : take (length l) l ≡ l = take_all (length l) l (omega arith) in
-    let rest : drop (length l + 1) l ≡ [] = grind (arith, common_steps) in
-    lines_of-parted l (some_bytes l h.begins) ∙ rw (e, front, rest) refl
-
 -- Ends.
 
-no_comment : (l : List ℕ) → list_all line_byte l ≡ true → before_comment l ≡ l
-no_comment l h =
-    let e = lacks_all 35 l (all_pass line_byte (λ b. not (eqb b 35)) line_byte-hash l h) in
-    rw e (take_all (length l) l (omega arith))
-
-pub trimmed_line : (l : List ℕ) → IsLine l → trimmed l ≡ l
-trimmed_line l h = ap trimmed (sym (no_comment l h.bytes)) ∙ content_line_is l h
-
-no_front_space : (l : List ℕ) → begins_clean l ≡ true → prefix_len is_space l ≡ 0
-no_front_space [] h = refl
-no_front_space (b ∷ bs) h = let s = clean-space b h in rw s refl
-
-pub without_front_is : (l : List ℕ) → IsLine l → without_front_spaces l ≡ l
-without_front_is l h = let f = no_front_space l h.begins in rw f refl
-
-after_space : (l : List ℕ) → without_front_spaces (32 ∷ l) ≡ without_front_spaces l
-after_space l = rw one-add refl
-
-pub trimmed_behind : (l : List ℕ) → IsLine l → trimmed (32 ∷ l) ≡ l
-trimmed_behind l h = ap without_back_spaces (after_space l) ∙ trimmed_line l h
-
-word_line : (w : List ℕ) → IsTight w → IsLine w
-word_line w h = subst IsLine (append-nil w) (line_of_words w [] (word_of_tight w h) tt)
-
 pub word_trimmed : (w : List ℕ) → IsTight w → trimmed w ≡ w
-word_trimmed w h = trimmed_line w (word_line w h)
+word_trimmed w h = trimmed_line w (word_line w (word_of_tight w h))
 
 pub word_trimmed_behind : (w : List ℕ) → IsTight w → trimmed (32 ∷ w) ≡ w
-word_trimmed_behind w h = trimmed_behind w (word_line w h)
+word_trimmed_behind w h = trimmed_behind w (word_line w (word_of_tight w h))
 
 -- Parts.
 

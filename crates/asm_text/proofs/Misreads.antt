@@ -22,7 +22,7 @@ use Rattle.asm_text.specs.declared.line.Arg.TheVariants.{Name}
 use Rattle.asm_text.specs.declared.line.Body.{Body}
 use Rattle.asm_text.specs.declared.line.Line.{Line}
 use Rattle.asm_text.specs.Arguments.{base_of, with_base, memory_by, memory_of, arg_by, arg_of, arg_before, args_of, args_in}
-use Rattle.asm_text.specs.Cut.{cut_at, parts_at}
+use Rattle.tn_text.specs.Cut.{cut_at, parts_at}
 use Rattle.asm_text.specs.Registers.{register_of}
 use Rattle.asm_text.specs.Statement.{word_by, word_body, named, instruction_of, body_by, body_of, with_body, labelled, line_by, line_of}
 use Rattle.asm_text.specs.Text.{is_misread, IsMisread, lines_from}

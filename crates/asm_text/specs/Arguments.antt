@@ -11,7 +11,7 @@ use Rattle.asm_text.specs.declared.line.Arg.{Arg}
 use Rattle.asm_text.specs.declared.line.Arg.TheVariants.{Reg, Num, Name, Mem}
 use Rattle.asm_text.specs.declared.fault.AsmKind.{AsmKind}
 use Rattle.asm_text.specs.declared.fault.AsmKind.TheVariants.{BadLine, BadNumber}
-use Rattle.asm_text.specs.Cut.{cut_at, parts_at}
+use Rattle.tn_text.specs.Cut.{cut_at, parts_at}
 use Rattle.asm_text.specs.Registers.{register_of}
 
 -- the bracket ends the text

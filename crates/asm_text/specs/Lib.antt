@@ -1,4 +1,3 @@
-pub mod Cut
 pub mod Number
 pub mod Places
 pub mod Registers

@@ -17,7 +17,7 @@ use Rattle.asm_text.specs.declared.fault.AsmKind.{AsmKind}
 use Rattle.asm_text.specs.declared.fault.AsmKind.TheVariants.{BadLine, BadNumber}
 use Rattle.asm_text.specs.Number.{word_number}
 use Rattle.asm_text.specs.Arguments.{args_in}
-use Rattle.asm_text.specs.Cut.{cut_at}
+use Rattle.tn_text.specs.Cut.{cut_at}
 
 abbrev pub word_by : Numeral ℤ → Result Body AsmKind
 word_by (Value n) = Ok (Word (word_number n))

@@ -1,33 +1,23 @@
 //! The arguments of an instruction.
 
-ghost use Rattle.std.specs.Prelude.{◌≡◌, [], IfOk};
+ghost use Rattle.std.specs.Prelude.{◌≡◌, []};
 ghost use Rattle.std.specs.declared.result.Result.TheVariants.{Ok};
 ghost use Rattle.tn_text.specs.Content.{trimmed as trimmed_of};
 ghost use Rattle.tn_text.specs.Gives.{Becomes, Gives};
-ghost use Rattle.asm_text.specs.Cut.{parts_at};
+ghost use Rattle.tn_text.specs.Cut.{parts_at};
 ghost use Rattle.asm_text.specs.Arguments.{base_of, memory_of, arg_of, args_of, args_in};
 ghost use Rattle.asm_text.specs.Reading.{joined, taken};
 
-use crate::cut::cut;
 use crate::fault::{AsmKind, LineStop};
 use crate::line::Arg;
 use crate::registers::find_register;
-use std::alloc::{AllocError, Global};
-use tn_base::name::Name;
+use std::alloc::Global;
 use tn_text::content::trimmed;
+use tn_text::cut::cut;
 use tn_text::items::Items;
-use tn_text::names::is_name;
+use tn_text::names::{copy_name, is_name};
 use tn_text::numbers::{Numeral, signed_number};
 use tn_text::stop::Stop;
-
-/// A name of these bytes.
-pub(crate) fn copy_name(alloc: Global, text: &[u8]) -> Result<Name, AllocError>
-    ensures { IfOk result (λ name. name ≡ text.now) }
-{
-    let mut bytes = Vec::new(alloc);
-    bytes.extend_from_slice(text)?;
-    Ok(Name::of(bytes))
-}
 
 /// The register of a text that ends with `)`.
 fn base(text: &[u8]) -> Option<u8>

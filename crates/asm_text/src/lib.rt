@@ -5,7 +5,6 @@
 #![tactic(auto)]
 
 mod arguments;
-mod cut;
 pub mod fault;
 pub mod line;
 pub mod places;

@@ -4,13 +4,13 @@ ghost use Rattle.std.specs.Prelude.{◌≡◌};
 ghost use Rattle.tn_text.specs.Gives.{Gives};
 ghost use Rattle.asm_text.specs.Statement.{word_body, body_of, line_by, line_of};
 
-use crate::arguments::{copy_name, read_args};
-use crate::cut::cut;
+use crate::arguments::read_args;
 use crate::fault::{AsmKind, LineStop};
 use crate::line::{Body, Line, word_number};
 use std::alloc::Global;
 use tn_text::content::{content, is_plain, trimmed};
-use tn_text::names::is_name;
+use tn_text::cut::cut;
+use tn_text::names::{copy_name, is_name};
 use tn_text::numbers::{Numeral, signed_number};
 use tn_text::stop::Stop;
 use tn_text::words::first_word;

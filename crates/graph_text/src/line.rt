@@ -12,7 +12,7 @@ use crate::graph::GraphKind;
 use std::alloc::{AllocError, Global};
 use tn_base::name::Name;
 use tn_text::items::Items;
-use tn_text::names::is_name;
+use tn_text::names::{copy_name, is_name};
 use tn_text::number_lists::{numbers, word_values};
 use tn_text::numbers::{Numeral, number};
 use tn_text::stop::Stop;
@@ -60,14 +60,6 @@ pub(crate) enum GraphLine {
 
 /// Why a line says nothing.
 pub(crate) type LineStop = Stop<GraphKind>;
-
-fn name_of(alloc: Global, text: &[u8]) -> Result<Name, AllocError>
-    ensures { IfOk result (λ name. name ≡ text.now) }
-{
-    let mut bytes = Vec::with_capacity(alloc, text.len())?;
-    bytes.extend_from_slice(text)?;
-    Ok(Name::of(bytes))
-}
 
 fn within(least: u32, most: u32, n: u32) -> bool
     ensures { result ≡ is_within least most n }
@@ -121,7 +113,7 @@ fn read_kind(alloc: Global, rest: &[u8]) -> Result<GraphLine, LineStop>
     if pins > 4 || !within(1, 16, words) {
         return Err(Stop::Fault(GraphKind::BadNumber));
     }
-    let name = name_of(alloc, name)?;
+    let name = copy_name(alloc, name)?;
     Ok(GraphLine::Kind(KindLine { name, pins, words }))
 }
 
@@ -131,8 +123,8 @@ fn read_vertex(alloc: Global, rest: &[u8]) -> Result<GraphLine, LineStop>
     let (name, rest) = next_word(rest)?;
     let (kind, rest) = next_word(rest)?;
     let words = given(is_name(name) && is_name(kind), word_values(alloc, rest)?)?;
-    let name = name_of(alloc, name)?;
-    let kind = name_of(alloc, kind)?;
+    let name = copy_name(alloc, name)?;
+    let kind = copy_name(alloc, kind)?;
     Ok(GraphLine::Vertex(VertexLine { name, kind, words }))
 }
 
@@ -167,8 +159,8 @@ fn read_edge(alloc: Global, rest: &[u8]) -> Result<GraphLine, LineStop>
     let (to, rest) = next_word(rest)?;
     let numbers = pair(number(pin), read_value(rest));
     let (pin, value) = given(is_name(from) && is_name(to), numbers)?;
-    let from = name_of(alloc, from)?;
-    let to = name_of(alloc, to)?;
+    let from = copy_name(alloc, from)?;
+    let to = copy_name(alloc, to)?;
     Ok(GraphLine::Edge(EdgeLine {
         from,
         pin,

@@ -14,7 +14,7 @@ use Rattle.tn_base.specs.Message.{flits}
 use Rattle.tn_base.specs.Parts.{board_count}
 use Rattle.tn_text.specs.declared.stop.Fault.{Fault as At}
 use Rattle.tn_text.specs.declared.stop.Stop.{Stop}
-use Rattle.tn_text.specs.Gives.{Gives as Reads}
+use Rattle.tn_text.specs.Gives.{Gives}
 use Rattle.tn_text.specs.Lines.{lines_of}
 use Rattle.graph_text.specs.declared.graph.Graph.{Graph}
 use Rattle.graph_text.specs.declared.graph.GraphKind.{GraphKind}
@@ -30,7 +30,7 @@ use Rattle.polite_routes.specs.Passes.{PassesButWidth}
 use Rattle.job_text.specs.declared.job.TextSection.{TextSection}
 use Rattle.job_load.specs.Mapping.{is_long, lines_flits, placed_on, routed_on, text_graph}
 
-pub text_read : (r : Result Graph (Stop (At GraphKind))) (s : TextSection) → Reads r (graph_of s.line (lines_of s.text)) → Reads r (text_graph s)
+pub text_read : (r : Result Graph (Stop (At GraphKind))) (s : TextSection) → Gives r (graph_of s.line (lines_of s.text)) → Gives r (text_graph s)
 unfolding text_graph
 text_read r s h = h
 

@@ -3,6 +3,8 @@ use Rattle.std.specs.Prelude.{◌≡◌, ℕ, ◌+◌, List, [], ◌∷◌, ◌+
 use Rattle.std.specs.declared.result.Result.{Result}
 use Rattle.std.specs.declared.result.Result.TheVariants.{Ok, Err}
 use Rattle.tn_text.specs.declared.stop.Fault.{Fault as At}
+use Rattle.tn_text.specs.declared.stop.Stop.{Stop}
+use Rattle.tn_text.specs.declared.stop.Stop.TheVariants.{Fault, Memory}
 use Rattle.asm_text.specs.declared.fault.AsmKind.{AsmKind}
 use Rattle.asm_build.specs.declared.image.Image.{Image}
 use Rattle.asm_build.specs.Text.{assembled}
@@ -10,8 +12,6 @@ use Rattle.job_text.specs.declared.job.CodeSection.{CodeSection}
 use Rattle.job_text.specs.declared.job.Job.{Job}
 use Rattle.job_text.specs.declared.job.TextSection.{TextSection}
 use Rattle.job_load.specs.declared.fault.LoadFault.{LoadFault}
-use Rattle.job_load.specs.declared.fault.LoadStop.{LoadStop}
-use Rattle.job_load.specs.declared.fault.LoadStop.TheVariants.{Fault, Memory}
 use Rattle.job_load.specs.Names.{fault_of_asm}
 
 -- a section's text begins on the line after its head
@@ -45,16 +45,16 @@ sections_of job = job.codes ++ map as_code job.asms
 
 -- What assembling answers, where memory may be wanting.
 
-abbrev pub IsStop : LoadStop → Option LoadFault → Type 0
+abbrev pub IsStop : Stop LoadFault → Option LoadFault → Type 0
 IsStop Memory first = Unit {0}
 IsStop (Fault fault) first = first ≡ Some fault
 
 -- the sections of assembly as sections that give words, or the first fault, unless memory ran out
-abbrev pub Assembles : Result (List CodeSection) LoadStop → List TextSection → Type 0
+abbrev pub Assembles : Result (List CodeSection) (Stop LoadFault) → List TextSection → Type 0
 Assembles (Ok sections) asms = (asms_fault asms ≡ None) × (sections ≡ map as_code asms)
 Assembles (Err stop) asms = IsStop stop (asms_fault asms)
 
 -- the same of one section
-abbrev pub AssemblesOne : Result CodeSection LoadStop → TextSection → Type 0
+abbrev pub AssemblesOne : Result CodeSection (Stop LoadFault) → TextSection → Type 0
 AssemblesOne (Ok section) s = (asms_fault (s ∷ []) ≡ None) × (section ≡ as_code s)
 AssemblesOne (Err stop) s = IsStop stop (asms_fault (s ∷ []))

@@ -2,9 +2,10 @@
 use Rattle.std.specs.Prelude.{◌≡◌, map, None}
 use Rattle.std.specs.declared.result.Result.{Result}
 use Rattle.std.specs.declared.result.Result.TheVariants.{Ok, Err}
+use Rattle.tn_text.specs.declared.stop.Stop.{Stop}
 use Rattle.job_text.specs.declared.job.Job.{Job}
 use Rattle.job_load.specs.declared.check.Checked.{Checked}
-use Rattle.job_load.specs.declared.fault.LoadStop.{LoadStop}
+use Rattle.job_load.specs.declared.fault.LoadFault.{LoadFault}
 use Rattle.job_load.specs.Assembly.{IsStop, as_code}
 use Rattle.job_load.specs.Faults.{section_fault}
 use Rattle.job_load.specs.Loaded.{load_fault}
@@ -20,6 +21,6 @@ pub record IsChecked (job : Job) (checked : Checked) : Type 0 where
   pub fits : AreMapped checked.mapped
 
 -- what is known of a job without a fault, or the first fault, unless memory ran out
-abbrev pub Checks : Result Checked LoadStop → Job → Type 0
+abbrev pub Checks : Result Checked (Stop LoadFault) → Job → Type 0
 Checks (Ok checked) job = IsChecked job checked
 Checks (Err stop) job = IsStop stop (load_fault job)

@@ -2,7 +2,6 @@ pub mod Assembly
 pub mod Checked
 pub mod Code
 pub mod Faults
-pub mod Gives
 pub mod Images
 pub mod Labels
 pub mod Laws

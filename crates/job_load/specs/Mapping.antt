@@ -7,6 +7,7 @@ use Rattle.tn_base.specs.Message.{flits}
 use Rattle.tn_text.specs.declared.numbers.Numeral.{Numeral}
 use Rattle.tn_text.specs.declared.numbers.Numeral.TheVariants.{Value, TooLarge, NoNumber}
 use Rattle.tn_text.specs.declared.stop.Fault.{Fault as At}
+use Rattle.tn_text.specs.declared.stop.Stop.{Stop}
 use Rattle.tn_text.specs.Content.{content_of}
 use Rattle.tn_text.specs.Lines.{lines_of}
 use Rattle.tn_text.specs.NumberLists.{numbers_in}
@@ -28,17 +29,12 @@ use Rattle.job_text.specs.declared.job.TextSection.{TextSection}
 use Rattle.job_load.specs.declared.fault.FaultName.{FaultName}
 use Rattle.job_load.specs.declared.fault.FaultName.TheVariants as fault
 use Rattle.job_load.specs.declared.fault.LoadFault.{LoadFault}
-use Rattle.job_load.specs.declared.fault.LoadStop.{LoadStop}
 use Rattle.job_load.specs.declared.map.Mapped.{Mapped}
 use Rattle.job_load.specs.Assembly.{IsStop}
 use Rattle.job_load.specs.Faults.{fault_at}
 use Rattle.job_load.specs.Names.{fault_of_graph}
 
 -- The graph.
-
--- each line of the graph's text has a number of 32 bits. This holds of each job that is read from a text
-abbrev pub has_numbers : TextSection → Bool
-has_numbers s = nat_lt (s.line + length (lines_of s.text)) (2 ^ 32)
 
 -- the first of two numbers
 abbrev pub first_number : Numeral (List ℕ) → ℕ
@@ -68,12 +64,11 @@ read_as (Ok graph) = Ok graph
 read_as (Err found) = Err (fault_of_graph found)
 
 -- the graph that a section says, or the first line at fault; before all that, messages that are too long for the version, at the
--- graph's line. Lines without numbers are too many
+-- graph's line
 abbrev pub graph_said : ShapeNumbers → TextSection → Result Graph LoadFault
 graph_said n s =
     if is_long n s then Err (fault_at s.line fault.BadNumber)
-    else if has_numbers s then read_as (text_graph s)
-    else Err (fault_at s.line fault.TooMany)
+    else read_as (text_graph s)
 
 -- The places of its vertices.
 
@@ -151,6 +146,6 @@ abbrev pub AreMapped : Option Mapped → Type 0
 AreMapped o = MatchOption o (Unit {0}) IsMapped
 
 -- what a call answers, unless memory ran out: no fault, and the graph with its places and routes, or the fault
-abbrev pub Maps : Result (Option Mapped) LoadStop → Option (Result Mapped LoadFault) → Type 0
+abbrev pub Maps : Result (Option Mapped) (Stop LoadFault) → Option (Result Mapped LoadFault) → Type 0
 Maps (Ok m) map = (fault_of_map map ≡ None) × (m ≡ value_of_map map)
 Maps (Err stop) map = IsStop stop (fault_of_map map)

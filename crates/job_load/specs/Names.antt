@@ -42,6 +42,9 @@ name_of_text text.NoEnd = fault.NoEnd
 name_of_text text.BadWord = fault.BadWord
 name_of_text text.TooMany = fault.TooMany
 
+abbrev pub fault_of_job : Fault JobKind → LoadFault
+fault_of_job found = record { line = found.line; kind = name_of_text found.kind }
+
 -- a text that is no assembly
 abbrev pub name_of_asm : AsmKind → FaultName
 name_of_asm asm.BadLine = fault.BadLine

@@ -1,15 +1,15 @@
 //! Why a job makes no machine.
 
 ghost use Rattle.std.specs.Prelude.{◌≡◌};
-ghost use Rattle.job_load.specs.Names.{fault_of_asm, fault_of_graph, fault_text, name_of_asm, name_of_beat, name_of_graph, name_of_number, name_of_table, name_of_text};
+ghost use Rattle.job_load.specs.Names.{fault_of_asm, fault_of_graph, fault_of_job, fault_text, name_of_asm, name_of_beat, name_of_graph, name_of_number, name_of_table, name_of_text};
 
 use asm_text::fault::{AsmFault, AsmKind};
 use graph_text::graph::{GraphFault, GraphKind};
-use job_text::job::JobKind;
-use std::alloc::AllocError;
+use job_text::job::{JobFault, JobKind};
 use tn_base::shape::ShapeFault;
 use tn_keys::beat::BeatFault;
 use tn_keys::fault::TableFault;
+use tn_text::stop::Stop;
 
 /// The name of a fault of a job, wherever it is found. A name that several parts of a job have stands once.
 #[derive(Clone, Copy, PartialEq, Eq, Debug)]
@@ -81,6 +81,16 @@ pub struct LoadFault {
 }
 
 impl LoadFault {
+    /// The fault for which a text is no job.
+    pub fn of_job(fault: JobFault) -> LoadFault
+        ensures { result ≡ fault_of_job fault }
+    {
+        LoadFault {
+            line: fault.line,
+            kind: FaultName::of_text(fault.kind),
+        }
+    }
+
     /// The fault for which a text is no assembly.
     pub fn of_asm(fault: AsmFault) -> LoadFault
         ensures { result ≡ fault_of_asm fault }
@@ -103,22 +113,7 @@ impl LoadFault {
 }
 
 /// Why there is no machine.
-#[derive(Clone, Copy, PartialEq, Eq, Debug)]
-pub enum LoadStop {
-    Fault(LoadFault),
-    Memory,
-}
-
-impl From<AllocError> for LoadStop {
-    ghost use Rattle.std.specs.Prelude.{◌≡◌};
-    ghost use Rattle.job_load.specs.declared.fault.LoadStop.TheVariants.{Memory};
-
-    ghost from_gives = { λ _ e. e ≡ Memory };
-
-    fn from(_: AllocError) -> LoadStop {
-        LoadStop::Memory
-    }
-}
+pub type LoadStop = Stop<LoadFault>;
 
 impl FaultName {
     /// The name of a number that is outside its limits.

@@ -3,7 +3,7 @@
 ghost use Rattle.std.specs.Prelude.{◌≡◌};
 ghost use Rattle.job_text.specs.Numbered.{AreNumbered};
 ghost use Rattle.job_text.specs.WellFormed.{IsWellFormed};
-ghost use Rattle.job_load.specs.Gives.{Gives};
+ghost use Rattle.tn_text.specs.Gives.{Gives};
 ghost use Rattle.job_load.specs.Loaded.{loaded};
 
 use crate::check::{Checked, check};

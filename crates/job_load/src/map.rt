@@ -2,7 +2,7 @@
 
 ghost use Rattle.job_text.specs.Numbered.{AreNumbered};
 ghost use Rattle.job_text.specs.WellFormed.{IsWellFormed};
-ghost use Rattle.job_load.specs.Gives.{Gives};
+ghost use Rattle.tn_text.specs.Gives.{Gives};
 ghost use Rattle.job_load.specs.Loaded.{mapped};
 ghost use Rattle.job_load.specs.Mapping.{IsMapped};
 ghost use Rattle.std.specs.Prelude.{IfOk};

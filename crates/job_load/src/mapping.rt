@@ -1,17 +1,17 @@
 //! A job's graph, the places of its vertices, and its routes.
 
-ghost use Rattle.std.specs.Prelude.{◌≡◌, ◌+◌, ◌<◌, ◌^◌, IfOk, IfSome, Ok, length, slice_index};
+ghost use Rattle.std.specs.Prelude.{◌≡◌, IfOk, IfSome, Ok, length, slice_index};
 ghost use Rattle.tn_base.specs.Parts.{board_count};
-ghost use Rattle.tn_text.specs.Gives.{Gives as Reads};
+ghost use Rattle.tn_text.specs.Gives.{Gives};
 ghost use Rattle.tn_text.specs.Content.{content_of};
 ghost use Rattle.tn_text.specs.Lines.{lines_of};
 ghost use Rattle.tn_text.specs.Words.{words_of};
 ghost use Rattle.graph_text.specs.Graph.{IsGraph};
+ghost use Rattle.job_text.specs.Numbered.{HaveNumbers};
 ghost use Rattle.polite_place.specs.Seats.{Places};
 ghost use Rattle.polite_routes.specs.Answer.{Routes};
-ghost use Rattle.job_load.specs.Gives.{Gives};
 ghost use Rattle.job_load.specs.Room.{AreLow};
-ghost use Rattle.job_load.specs.Mapping.{AreMapped, IsMapped, Maps, graph_said, has_numbers, is_long, lines_flits, mapped_by, placed_as, placed_on, routed_as, routed_on, section_mapped, text_graph, words_flits};
+ghost use Rattle.job_load.specs.Mapping.{AreMapped, IsMapped, Maps, graph_said, is_long, lines_flits, mapped_by, placed_as, placed_on, routed_as, routed_on, section_mapped, text_graph, words_flits};
 
 use crate::fault::{FaultName, LoadFault, LoadStop};
 use crate::map::Mapped;
@@ -26,24 +26,10 @@ use polite_routes::target::RouteStop;
 use std::alloc::Global;
 use tn_base::shape::Shape;
 use tn_text::content::content;
-use tn_text::lines::{first_line, law_line_count};
+use tn_text::lines::first_line;
 use tn_text::number_lists::numbers;
 use tn_text::numbers::Numeral;
 use tn_text::words::first_word;
-
-/// How many lines a text has.
-fn count_lines(text: &[u8]) -> usize
-    ensures { result ≡ length (lines_of text.now) }
-{
-    law_line_count(text);
-    let mut count = 0;
-    let mut rest = text;
-    while let Some((_line, after)) = first_line(rest) {
-        count += 1;
-        rest = after;
-    }
-    count
-}
 
 fn first_of(values: [u32; 2]) -> u32
     ensures { result ≡ slice_index values 0 }
@@ -81,18 +67,10 @@ fn is_long(shape: &Shape, section: &TextSection) -> bool
     lines_flits(section.text.as_slice()) > shape.flits()
 }
 
-/// Whether each line of a graph's text has a number.
-fn has_numbers(section: &TextSection) -> bool
-    ensures { result ≡ has_numbers section.now }
-{
-    let count = count_lines(section.text.as_slice()) as u64;
-    u64::from(section.line).saturating_add(count) < 4_294_967_296
-}
-
 /// The graph of a text.
 fn text_graph(alloc: Global, section: &TextSection) -> Result<Graph, GraphStop>
-    requires { section.now.line + length (lines_of section.now.text) < 2 ^ 32 }
-    ensures read { Reads result (text_graph section.now) }
+    requires { HaveNumbers section.now.line section.now.text }
+    ensures read { Gives result (text_graph section.now) }
     ensures fits { IfOk result (λ graph. IsGraph graph) }
 {
     read_graph(alloc, section.text.as_slice(), section.line)
@@ -100,14 +78,12 @@ fn text_graph(alloc: Global, section: &TextSection) -> Result<Graph, GraphStop>
 
 /// The graph that a section says.
 fn graph_said(alloc: Global, shape: &Shape, section: &TextSection) -> Result<Graph, LoadStop>
+    requires { HaveNumbers section.now.line section.now.text }
     ensures said { Gives result (graph_said shape.now section.now) }
     ensures fits { IfOk result (λ graph. IsGraph graph) }
 {
     if is_long(shape, section) {
         return Err(LoadStop::Fault(fault_at(section.line, FaultName::BadNumber)));
-    }
-    if !has_numbers(section) {
-        return Err(LoadStop::Fault(fault_at(section.line, FaultName::TooMany)));
     }
     match text_graph(alloc, section) {
         Ok(graph) => Ok(graph),
@@ -190,6 +166,7 @@ fn route_graph(
 
 /// The graph of a section with its places and routes.
 fn map_section(alloc: Global, shape: &Shape, section: &TextSection) -> Result<Mapped, LoadStop>
+    requires { HaveNumbers section.now.line section.now.text }
     ensures gives { Gives result (section_mapped shape.now section.now) }
     ensures fits { IfOk result IsMapped }
     ensures boards { IfOk result (λ m. length m.routes.tables ≡ board_count shape.now) }
@@ -211,6 +188,7 @@ pub(crate) fn map_job(
     shape: &Shape,
     graph: &Option<TextSection>,
 ) -> Result<Option<Mapped>, LoadStop>
+    requires { IfSome graph.now (λ s. HaveNumbers s.line s.text) }
     ensures maps { Maps result (mapped_by shape.now graph.now) }
     ensures fits { IfOk result AreMapped }
     ensures boards { IfOk result (λ m. IfSome m (λ m. length m.routes.tables ≡ board_count shape.now)) }

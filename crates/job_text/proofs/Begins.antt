@@ -6,7 +6,7 @@ use Rattle.std.specs.List.{AllByRecursion, slice_index}
 use Rattle.std.specs.Str.{bytes_eq}
 use Rattle.std.proofs.lemmas.Bool.{cases_Bool, leb-true, eqb-true, and_parts}
 use Rattle.tn_text.specs.Hex.{hex_bytes_of}
-use Rattle.tn_text.specs.Lines.{lines_of}
+use Rattle.tn_text.specs.Lines.{lines_of, feed}
 use Rattle.tn_text.specs.NumberLists.{numbers_in, numbers_of}
 use Rattle.tn_text.specs.Numbers.{number_of}
 use Rattle.tn_text.specs.Words.{is_some_text, words_of, one_of, two_of, three_of}
@@ -23,11 +23,10 @@ use Rattle.job_text.specs.declared.keyword.Keyword.TheVariants.{Number, Code, As
 use Rattle.job_text.specs.declared.keyword.Setting.TheVariants.{Slots, Link, Mem, Fuel, Turn}
 use Rattle.job_text.specs.Arguments.{◌>>=◌, given, tile_owner, owner_by, owner_in, pair_in}
 use Rattle.job_text.specs.Keyword.{keyword_of}
-use Rattle.job_text.specs.Printed.{feed}
 use Rattle.job_text.specs.SectionLines.{code_head, asm_head, table_head, graph_head, fill_bytes, fill_by, scripted, send_bytes, send_by, idle_line, host_line, section_begun}
 use Rattle.job_text.specs.WellFormed.{IsOwner, IsTextLine, IsSection}
 use Rattle.job_text.proofs.Bytes.{one_fits, numbers_fit, numbers_in_fit, given_is, index_fits, bytes_fit, bytes_some}
-use Rattle.job_text.proofs.WholeLines.{no_text}
+use Rattle.job_text.proofs.WholeLines.{no_text, one_more}
 
 -- the words of a line, none of them empty
 abbrev pub AreSome : List (List ℕ) → Type 0
@@ -37,8 +36,13 @@ AreSome ws = AllByRecursion (λ w. is_some_text w ≡ true) ws
 pub record Within (n : ℕ) (s : TextSection) : Type 0 where
   pub end : s.line + length (lines_of s.text) ≤ n
 
+-- the text of a graph begins with the line of the section
+pub record GraphWithin (n : ℕ) (s : TextSection) : Type 0 where
+  pub end : s.line + length (lines_of s.text) ≤ n + 1
+
 abbrev pub IsWithin : ℕ → Section → Type 0
 IsWithin n (section.Asm s) = Within n s
+IsWithin n (section.Graph s) = GraphWithin n s
 IsWithin n _ = Unit {0}
 
 -- what holds of a section that is read so far, behind so many lines
@@ -85,7 +89,7 @@ begins_table n ws t h =
     let fit = given_fit 2 ws b.0 b.1 in
     ok_is _ t (record { good = record { x = index_fits b.0 0 fit; y = index_fits b.0 1 fit; beats = tt; few = omega arith }; within = tt }) b.2
 
-same_bytes : (xs ys : List ℕ) → bytes_eq xs ys ≡ true → xs ≡ ys
+pub same_bytes : (xs ys : List ℕ) → bytes_eq xs ys ≡ true → xs ≡ ys
 same_bytes [] [] h = refl
 same_bytes [] (y ∷ ys) h = cc
 same_bytes (x ∷ xs) [] h = cc
@@ -133,7 +137,7 @@ begins_graph n l ws t line is h =
     let b = bind_ok (given (numbers_in 2 ws)) (λ ns. Ok (section.Graph (record { line = n; owner = All; text = l ++ 10 ∷ [] }))) t h in
     ok_is _ t (record {
       good = (l, [], ws, b.0, record { owner = refl; text = sym (append-nil (l ++ feed)); line = line; words_are = is; numbers = given_is (numbers_in 2 ws) b.0 b.1; lines = no_text });
-      within = tt;
+      within = record { end = omega (arith, one_more [] l 0 line (omega arith)) };
     }) b.2
 
 -- Sections of one line.

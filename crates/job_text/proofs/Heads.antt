@@ -8,17 +8,19 @@ use Rattle.tn_text.specs.declared.numbers.Numeral.TheVariants.{Value}
 use Rattle.tn_text.specs.NumberLists.{numbers_of}
 use Rattle.tn_text.specs.Words.{spaced}
 use Rattle.tn_base.specs.declared.shape.ShapeNumbers.{ShapeNumbers}
+use Rattle.tn_text.specs.Lines.{feed}
+use Rattle.tn_text.proofs.PrintedWords.{decimal_word}
+use Rattle.tn_text.proofs.Printed.{decimal_read_back}
 use Rattle.job_text.specs.declared.keyword.Setting.{Setting}
 use Rattle.job_text.specs.declared.keyword.Setting.TheVariants.{Slots, Link, Mem, Fuel, Turn}
 use Rattle.job_text.specs.declared.keyword.Keyword.TheVariants.{Number}
 use Rattle.job_text.specs.declared.draft.Place.TheVariants.{AtShape, AtSettings}
 use Rattle.job_text.specs.declared.draft.Draft.{Draft}
 use Rattle.job_text.specs.Keyword.{keyword_of, setting_in, with_setting}
-use Rattle.job_text.specs.Printed.{feed, header_text, shape_text, setting_text, settings_text}
+use Rattle.job_text.specs.Printed.{header_text, shape_text, setting_text, settings_text}
 use Rattle.job_text.specs.Text.{start, empty_job, default_numbers, all_at, shape_with, header_line, shape_line, entry_line}
-use Rattle.tn_text.proofs.Clean.{IsWord, AreWords, line_of_words, words_of-line}
-use Rattle.job_text.proofs.Words.{decimal_word, decimal_value}
-use Rattle.job_text.proofs.Leads.{Leads, leads_then, leads_line, leads_entry, spaced_one}
+use Rattle.tn_text.proofs.Clean.{IsWord, AreWords, line_of_words, words_of-line, spaced_one}
+use Rattle.job_text.proofs.Leads.{Leads, leads_then, leads_line, leads_entry}
 
 pub decimal_words : (ns : List ℕ) → AllByRecursion (λ n. n < 2 ^ 32) ns → AreWords (map decimal ns)
 decimal_words [] h = tt
@@ -26,7 +28,7 @@ decimal_words (n ∷ ns) h = (decimal_word n h.0, decimal_words ns h.1)
 
 pub numbers_of-decimals : (ns : List ℕ) → AllByRecursion (λ n. n < 2 ^ 32) ns → numbers_of (map decimal ns) ≡ Value ns
 numbers_of-decimals [] h = refl
-numbers_of-decimals (n ∷ ns) h = let here = decimal_value n h.0 in let more = numbers_of-decimals ns h.1 in rw (here, more) refl
+numbers_of-decimals (n ∷ ns) h = let here = decimal_read_back n h.0 in let more = numbers_of-decimals ns h.1 in rw (here, more) refl
 
 abbrev pub headed_draft : ℕ → Draft
 headed_draft v = record start { place = AtShape 2; job = record empty_job { version = v; numbers = record default_numbers { version = v } } }
@@ -89,7 +91,7 @@ setting_leads : (d : Draft) (n : ℕ) (name : List ℕ) (s : Setting) (value : �
     → eqb (setting_in s d.job.number_lines) d.job.number_lines.version ≡ true → Leads d n (setting_text name value) (with_set d (n + 1) s value) (n + 1)
 setting_leads d n name s value place key word fits free =
     let ws = decimal value ∷ [] in
-    let read = decimal_value value fits in
+    let read = decimal_read_back value fits in
     let taken : entry_line d (n + 1) (name ++ flat_map spaced ws) (name ∷ ws) ≡ Ok (with_set d (n + 1) s value) = rw (key, place, read, free) refl in
     let leads = leads_entry d n name ws (with_set d (n + 1) s value) (inl place) word (decimal_word value fits, tt) taken in
     let text : name ++ flat_map spaced ws ++ feed ≡ setting_text name value = ap (λ (xs : List ℕ). xs ++ feed) (sym (spaced_one name (decimal value))) in

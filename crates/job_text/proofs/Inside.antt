@@ -7,9 +7,11 @@ use Rattle.std.specs.List.{AllByRecursion}
 use Rattle.std.proofs.Math.Facts.{Fits-of_lt}
 use Rattle.std.proofs.lemmas.Bool.{lt-ltb, and_right, eq-eqb}
 use Rattle.tn_text.specs.Words.{words_of}
-use Rattle.tn_text.specs.Hex.{hex_text, hex_word_text, hex_array_of}
+use Rattle.tn_text.specs.Hex.{hex_text, hex_word_text, hex_array_of, word_text}
 use Rattle.tn_text.proofs.Clean.{IsWord, IsLine, line_of_words, words_of-line}
 use Rattle.tn_text.proofs.Printed.{hex_read_back, hex_word_read_back}
+use Rattle.tn_text.specs.Lines.{feed}
+use Rattle.tn_text.proofs.PrintedWords.{hex_word}
 use Rattle.job_text.specs.declared.job.BeatLine.{BeatLine}
 use Rattle.job_text.specs.declared.job.CodeSection.{CodeSection}
 use Rattle.job_text.specs.declared.job.Job.{Job}
@@ -18,11 +20,10 @@ use Rattle.job_text.specs.declared.job.Section.TheVariants.{Code, Table}
 use Rattle.job_text.specs.declared.job.TableSection.{TableSection}
 use Rattle.job_text.specs.declared.job.TextSection.{TextSection}
 use Rattle.job_text.specs.declared.named.Named.{Named}
-use Rattle.job_text.specs.Printed.{feed, word_text, beat_text, end_text}
+use Rattle.job_text.specs.Printed.{beat_text, end_text}
 use Rattle.job_text.specs.SectionLines.{word_line, word_by, beat_line, beat_by, text_added, with_line}
 use Rattle.job_text.specs.Text.{closed, going_on}
 use Rattle.job_text.specs.WellFormed.{AreBytes, IsBeat, beat_unlined, IsTextLine, fed}
-use Rattle.job_text.proofs.Words.{hex_word}
 use Rattle.job_text.proofs.Leads.{Leads, leads_none, leads_then, leads_line, leads_content}
 use Rattle.job_text.proofs.WholeLines.{lines_of-unbroken}
 

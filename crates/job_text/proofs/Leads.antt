@@ -1,8 +1,8 @@
 -- Reading on from a draft.
-use Rattle.std.proofs.Common.{◌≡◌, ◌⊎◌, ℕ, ◌+◌, true, List, [], ◌∷◌, ◌++◌, flat_map, refl, sym, ap, ◌∙◌, ⊎_elim, append-nil, append_assoc}
+use Rattle.std.proofs.Common.{◌≡◌, ◌⊎◌, ℕ, ◌+◌, true, List, [], ◌∷◌, ◌++◌, flat_map, refl, ap, ◌∙◌, ⊎_elim, append_assoc}
 use Rattle.std.specs.declared.result.Result.{Result}
 use Rattle.std.specs.declared.result.Result.TheVariants.{Ok}
-use Rattle.tn_text.specs.Lines.{lines_of}
+use Rattle.tn_text.specs.Lines.{lines_of, feed}
 use Rattle.tn_text.specs.Reading.{and_on}
 use Rattle.tn_text.specs.Words.{words_of, spaced}
 use Rattle.tn_text.specs.Content.{content_of, is_plain}
@@ -10,7 +10,6 @@ use Rattle.job_text.specs.declared.job.JobKind.{JobKind}
 use Rattle.job_text.specs.declared.draft.Place.{Place}
 use Rattle.job_text.specs.declared.draft.Place.TheVariants.{AtSettings, AtSections}
 use Rattle.job_text.specs.declared.draft.Draft.{Draft}
-use Rattle.job_text.specs.Printed.{feed}
 use Rattle.job_text.specs.Text.{bare, drafted, step, content_line, entry_line}
 use Rattle.tn_text.proofs.Clean.{IsLine, IsWord, AreWords, lines_of-line, plain_line, content_line_is, line_of_words, words_of-line}
 
@@ -54,14 +53,3 @@ leads_entry d n w ws e out h hs taken =
     let l = w ++ flat_map spaced ws in
     leads_line d n l e (line_of_words w ws h hs)
     (entry_content d (n + 1) l out ∙ ap (entry_line d (n + 1) l) (words_of-line w ws h hs) ∙ taken)
-
-pub spaced_one : (w a : List ℕ) → w ++ spaced a ≡ w ++ flat_map spaced (a ∷ [])
-spaced_one w a = ap (λ (xs : List ℕ). w ++ 32 ∷ xs) (sym (append-nil a))
-
-pub spaced_two : (w a b : List ℕ) → w ++ spaced a ++ spaced b ≡ w ++ flat_map spaced (a ∷ b ∷ [])
-spaced_two w a b = append_assoc w (spaced a) (spaced b) ∙ ap (λ (xs : List ℕ). w ++ (spaced a ++ 32 ∷ xs)) (sym (append-nil b))
-
-pub spaced_three : (w a b c : List ℕ) → w ++ spaced a ++ spaced b ++ spaced c ≡ w ++ flat_map spaced (a ∷ b ∷ c ∷ [])
-spaced_three w a b c =
-    append_assoc (w ++ spaced a) (spaced b) (spaced c) ∙ append_assoc w (spaced a) (spaced b ++ spaced c)
-    ∙ ap (λ (xs : List ℕ). w ++ (spaced a ++ (spaced b ++ 32 ∷ xs))) (sym (append-nil c))

@@ -1,4 +1,3 @@
-pub mod Words
 pub mod Names
 pub mod Sections
 pub mod WholeLines
@@ -12,3 +11,6 @@ pub mod Heads
 pub mod Inside
 pub mod Whole
 pub mod ReadBack
+pub mod Exchanged
+pub mod SaidSections
+pub mod SaidNumbers

@@ -1,5 +1,5 @@
 -- The sections of a job.
-use Rattle.std.proofs.Common.{◌≡◌, ℕ, ◌+◌, ◌≤◌, List, [], ◌∷◌, ◌++◌, Option, Some, None, map, refl, sym, ap, subst, ◌∙◌, arith, append_assoc}
+use Rattle.std.proofs.Common.{◌≡◌, ℕ, ◌+◌, ◌≤◌, List, [], ◌∷◌, ◌++◌, Option, Some, None, map, refl, sym, ap, subst, ◌∙◌, arith, append_assoc, IfSome}
 use Rattle.std.specs.List.{AllByRecursion}
 use Rattle.std.proofs.lemmas.List.{map-append}
 use Rattle.job_text.specs.declared.job.Job.{Job}
@@ -136,6 +136,15 @@ each_asm P job h = all_mapped (λ s. Asm s) P job.asms (all_front P (asms_in job
 pub each_table : (P : Section → Type 0) (job : Job) → AllByRecursion P (job_sections job) → AllByRecursion (λ t. P (Table t)) job.tables
 each_table P job h =
     all_mapped (λ t. Table t) P job.tables (all_front P (tables_in job) _ (all_back P (fills_in job) _ (all_back P (asms_in job) _ (all_back P (codes_in job) _ h))))
+
+graph_only : (P : Section → Type 0) (g : Option TextSection) → AllByRecursion P (graph_sections g) → IfSome g (λ s. P (Graph s))
+graph_only P None h = tt
+graph_only P (Some s) h = h.0
+
+pub each_graph : (P : Section → Type 0) (job : Job) → AllByRecursion P (job_sections job) → IfSome job.graph (λ s. P (Graph s))
+each_graph P job h =
+    graph_only P job.graph
+    (all_back P (script_in job) _ (all_back P (tables_in job) _ (all_back P (fills_in job) _ (all_back P (asms_in job) _ (all_back P (codes_in job) _ h)))))
 
 -- the tables of a job that was read
 pub tables_are : (job : Job) → AllByRecursion IsSection (job_sections job) → AllByRecursion IsTable job.tables

@@ -1,5 +1,5 @@
 -- What a text says holds together: a job may have each section, and no two sections have the same subject.
-use Rattle.std.proofs.Common.{◌≡◌, ◌⊎◌, ℕ, ◌+◌, ◌-◌, ◌^◌, ◌<◌, ◌≤◌, Bool, true, false, eqb, ltb, cond, List, [], ◌∷◌, ◌++◌, Option, Some, None, length, codes, refl, ap, subst, ◌∙◌, ⊎_elim, inl, inr, arith, append_assoc, length-append, IfOk}
+use Rattle.std.proofs.Common.{◌≡◌, ◌⊎◌, ℕ, ◌+◌, ◌-◌, ◌^◌, ◌<◌, ◌≤◌, Bool, true, false, eqb, ltb, cond, List, [], ◌∷◌, ◌++◌, Option, Some, None, length, codes, refl, ap, subst, ◌∙◌, ⊎_elim, inl, inr, arith, append_assoc, length-append, IfOk, IfSome}
 use Rattle.std.specs.declared.result.Result.{Result}
 use Rattle.std.specs.declared.result.Result.TheVariants.{Ok, Err}
 use Rattle.std.specs.List.{AllByRecursion}
@@ -13,7 +13,7 @@ use Rattle.tn_text.specs.declared.stop.Stop.{Stop}
 use Rattle.tn_text.specs.Content.{content_of, is_plain}
 use Rattle.tn_text.specs.Gives.{Gives}
 use Rattle.tn_text.specs.Hex.{hex_array_of, hex_word_of}
-use Rattle.tn_text.specs.Lines.{lines_of}
+use Rattle.tn_text.specs.Lines.{lines_of, feed}
 use Rattle.tn_text.specs.NumberLists.{numbers_in}
 use Rattle.tn_text.specs.Numbers.{number_of}
 use Rattle.tn_text.specs.Reading.{and_on}
@@ -39,8 +39,7 @@ use Rattle.job_text.specs.declared.named.Subject.TheVariants.{AllCode, TileCode,
 use Rattle.job_text.specs.Arguments.{◌>>=◌, number_by, number_in}
 use Rattle.job_text.specs.Keyword.{keyword_of, setting_in, with_setting}
 use Rattle.job_text.specs.Named.{is_named, nothing_named, section_named, subject_of}
-use Rattle.job_text.specs.Numbered.{AreNumbered, IsNumbered}
-use Rattle.job_text.specs.Printed.{feed}
+use Rattle.job_text.specs.Numbered.{AreNumbered, HaveNumbers, IsNumbered}
 use Rattle.job_text.specs.SectionLines.{is_whole, section_begun, word_added, word_by, word_line, beat_added, beat_by, beat_line, text_added, with_line}
 use Rattle.job_text.specs.Sections.{job_sections, with_section}
 use Rattle.job_text.specs.Text.{version_number, version_by, headed, header_line, shaped, shape_line, set_once, takes_settings, setting_line, closed, opened, opened_by, begun, going_on, inside_line, keyword_line, entry_line, content_line, bare, step, start, drafted, ended, job_by, job_of}
@@ -49,7 +48,7 @@ use Rattle.job_text.proofs.Begins.{AreSome, IsWithin, SectionIs, begins, bind_ok
 use Rattle.job_text.proofs.Bytes.{array_fits, index_fits, numbers_in_fit, one_fits, word_fits}
 use Rattle.job_text.proofs.Contents.{content_good, words_some}
 use Rattle.job_text.proofs.Names.{counted, mark, named_more, named_once, one, one_most}
-use Rattle.job_text.proofs.Sections.{IsFree, all_push, all_with, counted_with, each_asm, graph_none}
+use Rattle.job_text.proofs.Sections.{IsFree, all_push, all_with, counted_with, each_asm, each_graph, graph_none}
 use Rattle.job_text.proofs.WholeLines.{one_more, text_push}
 
 -- The numbers of a job.
@@ -64,6 +63,8 @@ pub record Sound (n : ℕ) (job : Job) (named : Named) (open_ones : List Section
   pub sections : AllByRecursion (SectionIs n) (job_sections job)
   pub inside : AllByRecursion (SectionIs n) open_ones
   pub once : (k : Subject) → counted k (job_sections job) + counted k open_ones ≡ one (is_named k named)
+  -- the line of the shape
+  pub low : job.number_lines.version ≤ n
 
 abbrev pub open_at : Place → List Section
 open_at (Inside s) = s ∷ []
@@ -72,13 +73,14 @@ open_at _ = []
 abbrev pub SoundAt : ℕ → Draft → Type 0
 SoundAt n d = Sound n d.job d.named (open_at d.place)
 
-ok_has : {A : Type 0} (P : A → Type 0) (x y : A) → P x → ◌≡◌ {A = Result A JobKind} (Ok x) (Ok y) → P y
+pub ok_has : {A : Type 0} (P : A → Type 0) (x y : A) → P x → ◌≡◌ {A = Result A JobKind} (Ok x) (Ok y) → P y
 ok_has P x y h e = let same : x ≡ y = cc in subst P same h
 
 -- One line later.
 
 within_later : (m n : ℕ) (s : Section) → m ≤ n → IsWithin m s → IsWithin n s
 within_later m n (section.Asm s) le h = record { end = omega (arith, h.end, le) }
+within_later m n (section.Graph s) le h = record { end = omega (arith, h.end, le) }
 within_later m n _ le h = tt
 
 later : (m n : ℕ) (ss : List Section) → m ≤ n → AllByRecursion (SectionIs m) ss → AllByRecursion (SectionIs n) ss
@@ -91,9 +93,10 @@ sound_later n job named ss h = record {
   sections = later n (n + 1) (job_sections job) (omega arith) h.sections;
   inside = later n (n + 1) ss (omega arith) h.inside;
   once = h.once;
+  low = omega (arith, h.low);
 }
 
-at_place : (n : ℕ) (d : Draft) (p : Place) → d.place ≡ p → SoundAt n d → Sound n d.job d.named (open_at p)
+pub at_place : (n : ℕ) (d : Draft) (p : Place) → d.place ≡ p → SoundAt n d → Sound n d.job d.named (open_at p)
 at_place n d p e h = subst (λ (q : Place). Sound n d.job d.named (open_at q)) e h
 
 -- The header.
@@ -124,6 +127,7 @@ take_headed d e n (Some v) is h t =
       sections = h.sections;
       inside = tt;
       once = h.once;
+      low = h.low;
     }) t
 
 take_header : (d e : Draft) (n : ℕ) (ws : List (List ℕ)) → SoundAt n d → Sound n d.job d.named [] → header_line d n ws ≡ Ok e → SoundAt n e
@@ -141,6 +145,7 @@ take_shaped d e n (Value ns) fit h t =
       sections = h.sections;
       inside = tt;
       once = h.once;
+      low = omega arith;
     }) t
 take_shaped d e n TooLarge fit h t = cc
 take_shaped d e n NoNumber fit h t = cc
@@ -164,7 +169,7 @@ set_fits Mem v n h fit = record { boards_x = h.boards_x; boards_y = h.boards_y; 
 set_fits Fuel v n h fit = record { boards_x = h.boards_x; boards_y = h.boards_y; tiles_x = h.tiles_x; tiles_y = h.tiles_y; cores = h.cores; threads = h.threads; slots = h.slots; link = h.link; mem = h.mem; fuel = fit; turn = h.turn }
 set_fits Turn v n h fit = record { boards_x = h.boards_x; boards_y = h.boards_y; tiles_x = h.tiles_x; tiles_y = h.tiles_y; cores = h.cores; threads = h.threads; slots = h.slots; link = h.link; mem = h.mem; fuel = h.fuel; turn = fit }
 
-set_version : (s : Setting) (v : ℕ) (n : ShapeNumbers) → (with_setting s v n).version ≡ n.version
+pub set_version : (s : Setting) (v : ℕ) (n : ShapeNumbers) → (with_setting s v n).version ≡ n.version
 set_version Slots v n = refl
 set_version Link v n = refl
 set_version Mem v n = refl
@@ -180,6 +185,7 @@ take_once d e n s v h fit t =
       sections = h.sections;
       inside = h.inside;
       once = h.once;
+      low = omega (arith, set_version s n d.job.number_lines, h.low);
     }) k)
     (λ f. let k : Err Twice ≡ Ok e = rw f at t in cc) (cases_Bool (eqb (setting_in s d.job.number_lines) d.job.number_lines.version))
 
@@ -200,9 +206,17 @@ head_with job (section.Table t) h = h
 head_with job (section.Script l) h = h
 head_with job (section.Graph s) h = h
 
-is_free : (job : Job) (s : Section) (b : Bool) → counted TheGraph (job_sections job) + counted TheGraph (s ∷ []) ≡ one b → IsFree job s
+pub is_free : (job : Job) (s : Section) (b : Bool) → counted TheGraph (job_sections job) + counted TheGraph (s ∷ []) ≡ one b → IsFree job s
 is_free job (section.Graph s) b h = graph_none job (omega (arith, h, one_most b))
 is_free job _ b h = tt
+
+pub lines_with : (job : Job) (s : Section) → (with_section job s).number_lines ≡ job.number_lines
+lines_with job (section.Code s) = refl
+lines_with job (section.Asm s) = refl
+lines_with job (section.Fill f) = refl
+lines_with job (section.Table t) = refl
+lines_with job (section.Script l) = refl
+lines_with job (section.Graph s) = refl
 
 closed_sound : (n : ℕ) (job : Job) (named : Named) (s : Section) → Sound n job named (s ∷ []) → SoundAt n (closed job named s)
 closed_sound n job named s h =
@@ -212,6 +226,7 @@ closed_sound n job named s h =
       sections = all_with (SectionIs n) job s free h.sections h.inside.0;
       inside = tt;
       once = λ k. omega (arith, h.once k, counted_with k job s free);
+      low = let e = lines_with job s in rw e h.low;
     }
 
 opened_sound : (n : ℕ) (job : Job) (named : Named) (s : Section) → Sound n job named (s ∷ []) → SoundAt n (opened job s named)
@@ -225,6 +240,7 @@ take_opened n job named s (Some m) e h is o t =
       sections = h.sections;
       inside = (is, tt);
       once = λ k. omega (arith, h.once k, named_more s named m k o);
+      low = h.low;
     })) t
 
 take_begun : (n : ℕ) (job : Job) (named : Named) (s : Section) (e : Draft) → Sound n job named [] → SectionIs n s → begun job named s ≡ Ok e → SoundAt n e
@@ -326,7 +342,8 @@ onto_line m l (section.Table s) t line h e =
     ok_has (Onto (m + 1) (section.Table s)) (section.Table b.0) t (record { good = o.0; within = tt }, rw (x, y) refl) b.2
 onto_line m l (section.Script s) t line h e = cc
 onto_line m l (section.Graph s) t line h e =
-    ok_has (Onto (m + 1) (section.Graph s)) (section.Graph (text_added s l)) t (record { good = graph_push s l h.good line; within = tt }, refl) e
+    let end : s.line + length (lines_of (s.text ++ l ++ feed)) ≤ m + 1 + 1 = omega (arith, h.within.end, one_more s.text l (length (lines_of s.text)) line (omega arith)) in
+    ok_has (Onto (m + 1) (section.Graph s)) (section.Graph (text_added s l)) t (record { good = graph_push s l h.good line; within = record { end = end } }, refl) e
 
 same_mark : (k : Subject) (s t : Section) → subject_of t ≡ subject_of s → mark k t ≡ mark k s
 same_mark k s t e = rw e refl
@@ -337,6 +354,7 @@ going_sound m job named s t h o = record {
   sections = later m (m + 1) (job_sections job) (omega arith) h.sections;
   inside = (o.0, tt);
   once = λ k. omega (arith, h.once k, same_mark k s t o.1);
+  low = omega (arith, h.low);
 }
 
 take_inside : (m : ℕ) (job : Job) (named : Named) (s : Section) (l : List ℕ) (e : Draft) → (bytes_eq l (codes "end") ≡ false → IsTextLine l) → Sound m job named (s ∷ []) → inside_line job named s (m + 1) l ≡ Ok e → SoundAt (m + 1) e
@@ -361,14 +379,14 @@ take_content AtSections d e m l p line h t =
     take_entry d e (m + 1) l (words_of l) refl (words_some l) line (sound_later m d.job d.named (open_at d.place) h) (sound_later m d.job d.named [] (at_place m d AtSections p h)) t
 take_content (Inside s) d e m l p line h t = take_inside m d.job d.named s l e line (at_place m d (Inside s) p h) t
 
-take_line : (d e : Draft) (m : ℕ) (l : List ℕ) → SoundAt m d → step (m + 1) (bare l) d ≡ Ok e → SoundAt (m + 1) e
+pub take_line : (d e : Draft) (m : ℕ) (l : List ℕ) → SoundAt m d → step (m + 1) (bare l) d ≡ Ok e → SoundAt (m + 1) e
 take_line d e m l h t =
     ⊎_elim (λ f. let k : content_line d.place d (m + 1) (content_of l) ≡ Ok e = rw f at t in take_content d.place d e m (content_of l) refl (content_good l f) h k)
     (λ f. let k = rw f at t in cc) (cases_Bool (is_plain l))
 
 -- Whole texts.
 
-on_ok : (n : ℕ) (r : Result Draft JobKind) (more : Draft → Result Draft (Fault JobKind)) (e : Draft) → and_on n r more ≡ Ok e → (x : Draft) × (r ≡ Ok x) × (more x ≡ Ok e)
+pub on_ok : (n : ℕ) (r : Result Draft JobKind) (more : Draft → Result Draft (Fault JobKind)) (e : Draft) → and_on n r more ≡ Ok e → (x : Draft) × (r ≡ Ok x) × (more x ≡ Ok e)
 on_ok n (Ok x) more e h = (x, refl, h)
 on_ok n (Err kind) more e h = cc
 
@@ -387,7 +405,7 @@ nothing (TileCode t) = refl
 nothing (BoardTable x y) = refl
 nothing TheGraph = refl
 
-start_sound : SoundAt 0 start
+pub start_sound : SoundAt 0 start
 start_sound = record {
   head = record {
     version = inl refl;
@@ -397,7 +415,12 @@ start_sound = record {
   sections = tt;
   inside = tt;
   once = λ k. omega (arith, ap one (nothing k));
+  low = omega arith;
 }
+
+-- the line of the shape is one of the lines that were read
+pub shape_low : (lines : List (List ℕ)) (d : Draft) → drafted 1 lines start ≡ Ok d → d.job.number_lines.version ≤ length lines
+shape_low lines d e = (all_sound lines 0 (length lines) start d (omega arith) start_sound e).low
 
 -- the job of a text that is read to its end
 pub record JobIs (n : ℕ) (job : Job) : Type 0 where
@@ -446,6 +469,15 @@ numbered_by : (n : ℕ) (ss : List TextSection) → n < 2 ^ 32 - 1 → AllByRecu
 numbered_by n [] h all = tt
 numbered_by n (s ∷ ss) h all = (record { fits = omega (arith, all.0.within.end) }, numbered_by n ss h all.1)
 
+graph_by : (n : ℕ) (g : Option TextSection) → n < 2 ^ 32 - 1 → IfSome g (λ s. SectionIs n (section.Graph s)) → IfSome g (λ s. HaveNumbers s.line s.text)
+graph_by n None h one = tt
+graph_by n (Some s) h one = omega (arith, one.within.end)
+
 pub gives_numbered : (r : Result Job (Stop (Fault JobKind))) (lines : List (List ℕ)) → length lines < 2 ^ 32 - 1 → Gives r (job_of lines) → IfOk r (λ job. AreNumbered job)
-gives_numbered (Ok job) lines few h = numbered_by (length lines) job.asms few (each_asm (SectionIs (length lines)) job (job_sound lines job h).sound.sections)
+gives_numbered (Ok job) lines few h =
+    let all = (job_sound lines job h).sound.sections in
+    record {
+      asms = numbered_by (length lines) job.asms few (each_asm (SectionIs (length lines)) job all);
+      graph = graph_by (length lines) job.graph few (each_graph (SectionIs (length lines)) job all);
+    }
 gives_numbered (Err stop) lines few h = tt

@@ -10,11 +10,12 @@ use Rattle.std.specs.Char.{digit_value}
 use Rattle.std.proofs.lemmas.Bool.{le-leb}
 use Rattle.std.proofs.lemmas.Bool.Decides.{nat_tests}
 use Rattle.std.proofs.lemmas.Fmt.{decimal_is_IsNumeral}
-use Rattle.tn_text.specs.Lines.{lines_of}
-use Rattle.tn_text.specs.Hex.{hex_text}
+use Rattle.tn_text.specs.Lines.{lines_of, feed}
+use Rattle.tn_text.specs.Hex.{hex_text, word_text}
 use Rattle.tn_text.specs.Words.{spaced}
-use Rattle.tn_text.proofs.Clean.{IsWord, AreWords}
-use Rattle.tn_text.proofs.Printed.{hex_read_back}
+use Rattle.tn_text.proofs.Clean.{IsWord, AreWords, spaced_one, spaced_two, spaced_three}
+use Rattle.tn_text.proofs.Printed.{hex_read_back, decimal_read_back}
+use Rattle.tn_text.proofs.PrintedWords.{decimal_word, hex_word}
 use Rattle.job_text.specs.declared.job.Owner.{Owner}
 use Rattle.job_text.specs.declared.job.Owner.TheVariants.{All, Tile}
 use Rattle.job_text.specs.declared.job.BeatLine.{BeatLine}
@@ -36,13 +37,12 @@ use Rattle.job_text.specs.declared.draft.Draft.{Draft}
 use Rattle.job_text.specs.Arguments.{◌>>=◌, owner_in}
 use Rattle.job_text.specs.Keyword.{keyword_of}
 use Rattle.job_text.specs.Named.{section_named, named_by}
-use Rattle.job_text.specs.Printed.{feed, owner_text, word_text, end_text, code_text, asm_text, fill_text, beat_text, table_text, script_text}
+use Rattle.job_text.specs.Printed.{owner_text, end_text, code_text, asm_text, fill_text, beat_text, table_text, script_text}
 use Rattle.job_text.specs.SectionLines.{section_begun}
 use Rattle.job_text.specs.Sections.{with_section}
 use Rattle.job_text.specs.Text.{begun, closed, entry_line, going_on, keyword_line, opened}
 use Rattle.job_text.specs.WellFormed.{IsOwner, IsCode, IsAsm, IsFill, IsTable, IsScript, IsScriptText, IsText, IsGraphText, IsSection, code_unlined, text_unlined, fill_unlined, table_unlined, script_unlined}
-use Rattle.job_text.proofs.Words.{decimal_word, decimal_value, hex_word}
-use Rattle.job_text.proofs.Leads.{Leads, leads_none, leads_then, leads_content, leads_entry, entry_content, IsOutside, spaced_one, spaced_two, spaced_three}
+use Rattle.job_text.proofs.Leads.{Leads, leads_none, leads_then, leads_content, leads_entry, entry_content, IsOutside}
 use Rattle.job_text.proofs.Heads.{numbers_of-decimals}
 use Rattle.job_text.proofs.Inside.{fit_bytes, words_lead, beats_lead, text_leads, end_leads, with_text, KeepsLines}
 use Rattle.job_text.proofs.WholeLines.{lines_of-unbroken}
@@ -118,7 +118,7 @@ pub owner_back : (o : Owner) → IsOwner o → owner_in (owner_text o ∷ []) �
 owner_back All h = refl
 owner_back (Tile tile) h =
     let other = digits_not_all (decimal tile) (decimal_is_IsNumeral tile (omega arith)).0.1 in
-    let value = decimal_value tile h in
+    let value = decimal_read_back tile h in
     rw (other, value) refl
 
 -- Code.
@@ -185,8 +185,8 @@ one_fill d n f m out h named =
     let item = record f { line = n + 1 } in
     let read = hex_read_back f.bytes bytes in
     let few = le-leb (length f.bytes) 4096 h.few in
-    let thread = decimal_value f.thread h.thread in
-    let address = decimal_value f.address h.address in
+    let thread = decimal_read_back f.thread h.thread in
+    let address = decimal_read_back f.address h.address in
     let head = head_leads d n (codes "fill") ws Fill (section.Fill item) m out (record { bytes = refl; some = refl })
     (decimal_word f.thread h.thread, (decimal_word f.address h.address, (hex_word f.bytes bytes h.some, tt))) refl tt (rw (read, few, thread, address) refl) named in
     let text : codes "fill" ++ flat_map spaced ws ++ feed ≡ fill_text f = ap (λ (xs : List ℕ). xs ++ feed) (sym (spaced_three (codes "fill") (decimal f.thread) (decimal f.address) (hex_text f.bytes))) in
@@ -225,7 +225,7 @@ script_leads d n line (Send thread bytes) m out h named =
     let ws = codes "send" ∷ decimal thread ∷ hex_text bytes ∷ [] in
     let item = section.Script (record { line = n + 1; item = Send thread bytes }) in
     let read = hex_read_back bytes fit in
-    let number = decimal_value thread h.0 in
+    let number = decimal_read_back thread h.0 in
     let head = head_leads d n (codes "host") ws Host item m out (record { bytes = refl; some = refl })
     (record { bytes = refl; some = refl }, (decimal_word thread h.0, (hex_word bytes fit h.2, tt))) refl tt (rw (read, number) refl) named in
     let text : codes "host" ++ flat_map spaced ws ++ feed ≡ script_text (record { line = line; item = Send thread bytes }) = ap (λ (xs : List ℕ). xs ++ feed) (sym (spaced_three (codes "host") (codes "send") (decimal thread) (hex_text bytes))) in

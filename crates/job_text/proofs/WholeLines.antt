@@ -2,8 +2,7 @@
 use Rattle.std.proofs.Common.{◌≡◌, ℕ, ◌+◌, ◌≤◌, false, List, [], ◌∷◌, ◌++◌, length, flat_map, refl, sym, ap, subst, ◌∙◌, ⊎_elim, append-nil, append_assoc, arith}
 use Rattle.std.specs.List.{AllByRecursion, list_any}
 use Rattle.std.proofs.lemmas.Bool.{cases_Bool, or_parts}
-use Rattle.tn_text.specs.Lines.{is_feed, lines_of, onto_line}
-use Rattle.job_text.specs.Printed.{feed}
+use Rattle.tn_text.specs.Lines.{is_feed, lines_of, onto_line, feed}
 use Rattle.job_text.specs.WellFormed.{IsTextLine, fed, IsText}
 use Rattle.job_text.proofs.Sections.{all_push}
 

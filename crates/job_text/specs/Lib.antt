@@ -5,6 +5,9 @@ pub mod Keyword
 pub mod SectionLines
 pub mod Text
 pub mod Contents
+pub mod Exchanged
+pub mod SaidSections
+pub mod SaidNumbers
 pub mod Numbered
 pub mod Printed
 pub mod WellFormed

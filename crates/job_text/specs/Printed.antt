@@ -1,7 +1,8 @@
 -- The printed form of a job.
-use Rattle.std.specs.Prelude.{ℕ, List, [], ◌∷◌, ◌++◌, codes, decimal, flat_map, Option, Some, None}
+use Rattle.std.specs.Prelude.{ℕ, List, [], ◌++◌, codes, decimal, flat_map, Option, Some, None}
 use Rattle.tn_base.specs.declared.shape.ShapeNumbers.{ShapeNumbers}
-use Rattle.tn_text.specs.Hex.{hex_text, hex_word_text}
+use Rattle.tn_text.specs.Hex.{hex_text, words_text}
+use Rattle.tn_text.specs.Lines.{feed}
 use Rattle.tn_text.specs.Words.{spaced}
 use Rattle.job_text.specs.declared.job.Owner.{Owner}
 use Rattle.job_text.specs.declared.job.Owner.TheVariants.{All, Tile}
@@ -14,9 +15,6 @@ use Rattle.job_text.specs.declared.job.ScriptText.{ScriptText}
 use Rattle.job_text.specs.declared.job.ScriptText.TheVariants.{Send, Idle}
 use Rattle.job_text.specs.declared.job.ScriptLine.{ScriptLine}
 use Rattle.job_text.specs.declared.job.Job.{Job}
-
-abbrev pub feed : List ℕ
-feed = 10 ∷ []
 
 abbrev pub header_text : ℕ → List ℕ
 header_text version = codes "tinsel" ++ spaced (decimal version) ++ feed
@@ -41,11 +39,8 @@ owner_text (Tile tile) = decimal tile
 abbrev pub end_text : List ℕ
 end_text = codes "end" ++ feed
 
-abbrev pub word_text : ℕ → List ℕ
-word_text word = hex_word_text word ++ feed
-
 abbrev pub code_text : CodeSection → List ℕ
-code_text s = codes "code" ++ spaced (owner_text s.owner) ++ feed ++ flat_map word_text s.words ++ end_text
+code_text s = codes "code" ++ spaced (owner_text s.owner) ++ feed ++ words_text s.words ++ end_text
 
 abbrev pub asm_text : TextSection → List ℕ
 asm_text s = codes "asm" ++ spaced (owner_text s.owner) ++ feed ++ s.text ++ end_text

@@ -3,7 +3,7 @@ use Rattle.std.specs.Prelude.{◌≡◌, ◌⊎◌, ℕ, ◌^◌, ◌<◌, ◌�
 use Rattle.std.specs.List.{AllByRecursion, list_any}
 use Rattle.std.specs.declared.result.Result.TheVariants.{Ok}
 use Rattle.tn_base.specs.declared.shape.ShapeNumbers.{ShapeNumbers}
-use Rattle.tn_text.specs.Lines.{lines_of, is_feed}
+use Rattle.tn_text.specs.Lines.{lines_of, is_feed, feed}
 use Rattle.tn_text.specs.Content.{content_of, is_plain}
 use Rattle.tn_text.specs.declared.numbers.Numeral.TheVariants.{Value}
 use Rattle.tn_text.specs.NumberLists.{numbers_in}
@@ -22,7 +22,7 @@ use Rattle.job_text.specs.declared.job.Job.{Job}
 use Rattle.job_text.specs.declared.job.Section.{Section}
 use Rattle.job_text.specs.declared.job.Section.TheVariants.{Code, Asm, Fill, Table, Script, Graph}
 use Rattle.job_text.specs.Named.{named_by, nothing_named}
-use Rattle.job_text.specs.Printed.{feed, text_of}
+use Rattle.job_text.specs.Printed.{text_of}
 use Rattle.job_text.specs.Sections.{job_sections}
 use Rattle.job_text.specs.Text.{all_at, job_of}
 

@@ -1,22 +1,14 @@
 //! Printing a job.
 
-ghost use Rattle.std.specs.Prelude.{◌≡◌, ◌++◌, IfOk, OnOk, decimal, flat_map};
-ghost use Rattle.tn_text.specs.Words.{spaced};
-ghost use Rattle.job_text.specs.Printed.{header_text, shape_text, setting_text, settings_text, owner_text, end_text, word_text, code_text, asm_text, fill_text, beat_text, table_text, script_text, graph_text, sections_text, text_of};
+ghost use Rattle.std.specs.Prelude.{◌≡◌, ◌++◌, IfOk, OnOk, flat_map};
+ghost use Rattle.job_text.specs.Printed.{header_text, shape_text, setting_text, settings_text, owner_text, end_text, code_text, asm_text, fill_text, beat_text, table_text, script_text, graph_text, sections_text, text_of};
 
 use crate::job::{
     BeatLine, CodeSection, FillLine, Job, Owner, ScriptLine, ScriptText, TableSection, TextSection,
 };
 use std::alloc::{AllocError, Global};
 use tn_base::shape::ShapeNumbers;
-use tn_text::print::{push_decimal, push_hex, push_hex_word};
-
-fn push_number(alloc: Global, text: &mut Vec<u8>, number: u32) -> Result<(), AllocError>
-    ensures { OnOk result (text.new.items ≡ text.old.items ++ spaced (decimal number)) }
-{
-    text.push(b' ')?;
-    push_decimal(alloc, text, number)
-}
+use tn_text::print::{push_decimal, push_hex, push_number, push_words};
 
 fn push_header(alloc: Global, text: &mut Vec<u8>, version: u32) -> Result<(), AllocError>
     ensures { OnOk result (text.new.items ≡ text.old.items ++ header_text version) }
@@ -82,16 +74,6 @@ fn push_end(text: &mut Vec<u8>) -> Result<(), AllocError>
     ensures { OnOk result (text.new.items ≡ text.old.items ++ end_text) }
 {
     text.extend_from_slice(b"end\n".as_slice())
-}
-
-fn push_words(text: &mut Vec<u8>, words: &[u32]) -> Result<(), AllocError>
-    ensures { OnOk result (text.new.items ≡ text.old.items ++ flat_map word_text words.now) }
-{
-    for word in words {
-        push_hex_word(text, *word)?;
-        text.push(b'\n')?;
-    }
-    Ok(())
 }
 
 fn push_code(alloc: Global, text: &mut Vec<u8>, section: &CodeSection) -> Result<(), AllocError>

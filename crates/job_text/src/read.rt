@@ -37,7 +37,7 @@ pub fn read_job(alloc: Global, text: &[u8]) -> Result<Job, JobStop>
     ensures read { Gives result (job_of (lines_of text.now)) }
     // So its printed form is read again as the same job, by `law_read_back`.
     ensures well_formed { IfOk result (λ job. IsWellFormed job) }
-    // The lines of its sections of assembly are lines of the text.
+    // The lines of its assembly and of its graph are lines of the text.
     ensures numbered { IfOk result (λ job. AreNumbered job) }
 {
     read(alloc, text)

@@ -5,7 +5,8 @@ use Rattle.tn_keys.specs.Tables.{Table}
 use Rattle.tn_keys.specs.Written.{written}
 use Rattle.job_text.specs.declared.job.BeatLine.{BeatLine}
 use Rattle.job_text.specs.Printed.{beat_text}
-use Rattle.map_text.specs.Text.{beat_line, feed}
+use Rattle.tn_text.specs.Lines.{feed}
+use Rattle.map_text.specs.Text.{beat_line}
 
 abbrev bytes_line : List ℕ → List ℕ
 bytes_line bytes = hex_text bytes ++ feed

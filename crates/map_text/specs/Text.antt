@@ -1,9 +1,10 @@
 -- What is written of a graph that was placed and routed.
-use Rattle.std.specs.Prelude.{ℕ, ◌≡◌, ◌==◌, List, [], ◌∷◌, ◌++◌, codes, decimal, flat_map, length, map, slice_index_or, if◌then◌else◌}
+use Rattle.std.specs.Prelude.{ℕ, ◌≡◌, ◌==◌, List, [], ◌++◌, codes, decimal, flat_map, length, map, slice_index_or, if◌then◌else◌}
 use Rattle.std.specs.List.{range_with_len}
 use Rattle.tn_base.specs.declared.shape.ShapeNumbers.{ShapeNumbers}
 use Rattle.tn_base.specs.declared.ids.Board.{Board}
 use Rattle.tn_text.specs.Hex.{hex_text}
+use Rattle.tn_text.specs.Lines.{feed}
 use Rattle.tn_text.specs.Words.{spaced}
 use Rattle.tn_keys.specs.declared.record.RouteRec.{RouteRec}
 use Rattle.tn_keys.specs.Tables.{Table, table_of}
@@ -14,9 +15,6 @@ use Rattle.graph_text.specs.declared.graph.Graph.{Graph}
 use Rattle.graph_text.specs.Text.{vertex_names}
 use Rattle.polite_place.specs.declared.placement.Seat.{Seat}
 use Rattle.polite_place.specs.Seats.{seat_of}
-
-abbrev pub feed : List ℕ
-feed = 10 ∷ []
 
 -- `place NAME THREAD`
 abbrev pub place_line : List ℕ → ℕ → List ℕ

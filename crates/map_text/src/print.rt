@@ -1,5 +1,5 @@
 //! Printing places and tables.
-ghost use Rattle.std.specs.Prelude.{◌≡◌, ◌≤◌, ◌<◌, ◌++◌, IfOk, OnOk, decimal, flat_map, length};
+ghost use Rattle.std.specs.Prelude.{◌≡◌, ◌≤◌, ◌<◌, ◌++◌, IfOk, OnOk, flat_map, length};
 ghost use Rattle.tn_base.specs.Shape.{WithinLimits};
 ghost use Rattle.tn_text.specs.Words.{spaced};
 ghost use Rattle.map_text.specs.Text.{beat_line, board_text, map_text, place_line, places_text, row_text, section_text, tables_text, vertex_line};
@@ -11,20 +11,13 @@ use tn_base::shape::Shape;
 use tn_keys::beat::Beat;
 use tn_keys::tables::Tables;
 use tn_keys::write_beat;
-use tn_text::print::{push_decimal, push_hex};
+use tn_text::print::{push_hex, push_number};
 
 fn push_word(text: &mut Vec<u8>, word: &[u8]) -> Result<(), AllocError>
     ensures { OnOk result (text.new.items ≡ text.old.items ++ spaced word.now) }
 {
     text.push(b' ')?;
     text.extend_from_slice(word)
-}
-
-fn push_number(alloc: Global, text: &mut Vec<u8>, number: u32) -> Result<(), AllocError>
-    ensures { OnOk result (text.new.items ≡ text.old.items ++ spaced (decimal number)) }
-{
-    text.push(b' ')?;
-    push_decimal(alloc, text, number)
 }
 
 /// Appends the line of a name and a thread.

@@ -5,7 +5,8 @@ use crate::fault::Fault;
 use crate::input::{push_escaped, push_plain};
 use std::alloc::Global;
 use tn_text::content::trimmed;
-use tn_text::lines::{cut, first_line};
+use tn_text::cut::cut;
+use tn_text::lines::first_line;
 use tn_text::words::first_word;
 
 /// How a case's input is written, and what is shown of the answer.

@@ -1,8 +1,8 @@
 //! Lines of a case's input as bytes.
 
 use std::alloc::AllocError;
+use tn_text::cut::cut;
 use tn_text::hex::hex_array;
-use tn_text::lines::cut;
 use tn_text::numbers::{Numeral, decimal};
 
 /// Appends a line as it is.

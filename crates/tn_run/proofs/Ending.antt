@@ -5,8 +5,8 @@ use Rattle.std.specs.declared.result.Result.{Result}
 use Rattle.std.specs.declared.result.Result.TheVariants.{Ok, Err}
 use Rattle.std.specs.List.{slice_get}
 use Rattle.job_load.specs.declared.fault.LoadFault.{LoadFault}
-use Rattle.job_load.specs.declared.fault.LoadStop.{LoadStop}
-use Rattle.job_load.specs.Gives.{Gives}
+use Rattle.tn_text.specs.declared.stop.Stop.{Stop}
+use Rattle.tn_text.specs.Gives.{Gives}
 use Rattle.tn_letters.specs.Law.{IsStart}
 use Rattle.tn_base.specs.declared.event.Event.{Event}
 use Rattle.tn_rows.specs.Ends.{final_after, final_of, last_of}
@@ -30,6 +30,6 @@ pub final_at : (events : List Event) (e : Event) (w : WorldView) → slice_get e
 final_at events e w h = rw (last_is events, h) refl
 
 -- what is loaded is a start, if each machine that loading gives is one
-pub started : (r : Result WorldView LoadStop) (loaded : Result WorldView LoadFault) → Gives r loaded → ((w : WorldView) → loaded ≡ Ok w → IsStart w) → IfOk r IsStart
+pub started : (r : Result WorldView (Stop LoadFault)) (loaded : Result WorldView LoadFault) → Gives r loaded → ((w : WorldView) → loaded ≡ Ok w → IsStart w) → IfOk r IsStart
 started (Ok w) loaded g all = all w g
 started (Err stop) loaded g all = tt

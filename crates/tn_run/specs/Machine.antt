@@ -4,7 +4,7 @@ use Rattle.std.specs.declared.result.Result.{Result}
 use Rattle.std.specs.declared.result.Result.TheVariants.{Ok, Err}
 use Rattle.job_load.specs.declared.fault.LoadFault.{LoadFault}
 use Rattle.job_load.specs.Loaded.{loaded}
-use Rattle.job_load.specs.Names.{name_of_text}
+use Rattle.job_load.specs.Names.{fault_of_job}
 use Rattle.job_text.specs.declared.job.Job.{Job}
 use Rattle.job_text.specs.declared.job.JobKind.{JobKind}
 use Rattle.tn_text.specs.declared.stop.Fault.{Fault}
@@ -50,7 +50,7 @@ machine_reads (machine.Run workers trace) = true
 -- the machine of what was read, at its start, or the first fault
 abbrev pub machine_by : Result Job (Fault JobKind) → Result WorldView LoadFault
 machine_by (Ok job) = loaded job
-machine_by (Err fault) = Err (record { line = fault.line; kind = name_of_text fault.kind })
+machine_by (Err fault) = Err (fault_of_job fault)
 
 -- the machine of an input, at its start, or the first fault
 abbrev pub machine_of : List ℕ → Result WorldView LoadFault

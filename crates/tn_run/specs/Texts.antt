@@ -7,7 +7,7 @@ use Rattle.tn_call.specs.Streams.{Streams}
 use Rattle.tn_call.specs.declared.status.Status.{Status}
 use Rattle.tn_call.specs.declared.status.Status.TheVariants.{BadKey, Done, Jammed, Memory, Refused, Spent, Trapped}
 use Rattle.tn_text.specs.Content.{content_of}
-use Rattle.tn_text.specs.Hex.{hex_word_of, hex_word_text}
+use Rattle.tn_text.specs.Hex.{hex_word_of, words_text}
 use Rattle.tn_text.specs.Lines.{lines_of}
 use Rattle.tn_words.specs.declared.command.Command.{Command}
 use Rattle.tn_words.specs.declared.command.Command.TheVariants as command
@@ -18,8 +18,6 @@ use Rattle.asm_build.specs.declared.image.Image.{Image}
 use Rattle.asm_build.specs.Shown.{shown}
 use Rattle.job_load.specs.declared.fault.FaultName.TheVariants as fault
 use Rattle.job_load.specs.declared.fault.LoadFault.{LoadFault}
-use Rattle.job_load.specs.declared.fault.LoadStop.{LoadStop}
-use Rattle.job_load.specs.declared.fault.LoadStop.TheVariants as stop
 use Rattle.asm_build.specs.Text.{assembled}
 use Rattle.tn_base.specs.declared.shape.ShapeNumbers.{ShapeNumbers}
 use Rattle.job_text.specs.declared.job.Job.{Job}
@@ -27,7 +25,7 @@ use Rattle.job_text.specs.declared.job.JobKind.{JobKind}
 use Rattle.job_text.specs.Text.{job_of}
 use Rattle.job_load.specs.declared.map.Mapped.{Mapped}
 use Rattle.job_load.specs.Loaded.{mapped}
-use Rattle.job_load.specs.Names.{fault_of_asm, name_of_text}
+use Rattle.job_load.specs.Names.{fault_of_asm, fault_of_job}
 use Rattle.map_text.specs.Text.{map_text}
 use Rattle.tn_run.specs.declared.texts.TextCommand.{TextCommand}
 use Rattle.tn_run.specs.declared.texts.TextCommand.TheVariants.{Asm, Map, Show}
@@ -51,14 +49,6 @@ abbrev pub reads_all : TextCommand → Bool
 reads_all command = true
 
 -- From assembly to words.
-
--- a word in eight lower-case hexadecimal digits
-abbrev pub word_line : ℕ → List ℕ
-word_line word = hex_word_text word ++ codes "\n"
-
-abbrev pub words_text : List ℕ → List ℕ
-words_text [] = []
-words_text (word ∷ words) = word_line word ++ words_text words
 
 abbrev pub asm_by : Result Image (Fault AsmKind) → Result (List ℕ) LoadFault
 asm_by (Ok image) = Ok (words_text image.words)
@@ -101,7 +91,7 @@ map_by n (Err found) = Err found
 
 abbrev pub map_of : Result Job (Fault JobKind) → Result (List ℕ) LoadFault
 map_of (Ok job) = map_by job.numbers (mapped job)
-map_of (Err found) = Err (record { line = found.line; kind = name_of_text found.kind })
+map_of (Err found) = Err (fault_of_job found)
 
 -- What a command answers.
 
@@ -127,15 +117,6 @@ Anything kept = Unit {0}
 abbrev pub onto : List ℕ → Result (List ℕ) LoadFault → Result (List ℕ) LoadFault
 onto text (Ok more) = Ok (text ++ more)
 onto text (Err found) = Err found
-
-abbrev pub IsStop : LoadStop → Result (List ℕ) LoadFault → Type 0
-IsStop stop.Memory made = Unit {0}
-IsStop (stop.Fault found) made = made ≡ Err found
-
--- the text became what this makes of it, unless memory ran out
-abbrev pub Makes : Result Unit LoadStop → List ℕ → Result (List ℕ) LoadFault → Type 0
-Makes (Ok done) new made = made ≡ Ok new
-Makes (Err why) new made = IsStop why made
 
 -- What `plain_top` answers.
 

@@ -1,6 +1,6 @@
 //! The commands that run a machine: from an input to its answer.
 ghost use Rattle.std.specs.Prelude.{⊤, true, ◌≡◌, ◌≤◌, ◌++◌, [], if◌then◌else◌, IfOk, OnOk, MatchOption, length};
-ghost use Rattle.job_load.specs.Gives.{Gives};
+ghost use Rattle.tn_text.specs.Gives.{Gives};
 ghost use Rattle.tn_letters.specs.Law.{IsStart};
 ghost use Rattle.tn_call.specs.Number.{tells};
 ghost use Rattle.tn_rows.specs.Ends.{IsOutcome, final_after, last_of};
@@ -15,7 +15,7 @@ use crate::kept::Kept;
 use crate::refusal::refused;
 use crate::report::push_report;
 use job_bag::laws::law_starts;
-use job_load::fault::{FaultName, LoadFault, LoadStop};
+use job_load::fault::{LoadFault, LoadStop};
 use job_load::load::load;
 use job_text::job::JobStop;
 use job_text::read::read_job;
@@ -56,10 +56,7 @@ fn load_input(alloc: Global, input: &[u8]) -> Result<World<PlainLink>, LoadStop>
     match read_job(alloc, input) {
         Ok(job) => load(alloc, &job),
         Err(JobStop::Memory) => Err(LoadStop::Memory),
-        Err(JobStop::Fault(fault)) => Err(LoadStop::Fault(LoadFault {
-            line: fault.line,
-            kind: FaultName::of_text(fault.kind),
-        })),
+        Err(JobStop::Fault(fault)) => Err(LoadStop::Fault(LoadFault::of_job(fault))),
     }
 }
 

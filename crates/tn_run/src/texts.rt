@@ -4,7 +4,8 @@ ghost use Rattle.job_load.specs.Loaded.{mapped};
 ghost use Rattle.job_text.specs.Numbered.{AreNumbered};
 ghost use Rattle.job_text.specs.WellFormed.{IsWellFormed};
 ghost use Rattle.tn_call.specs.Number.{tells};
-ghost use Rattle.tn_run.specs.Texts.{Anything, Makes, made_by, map_by, onto, reads_all, shown_line, shown_text, text_answer, text_in, word_line, words_text};
+ghost use Rattle.tn_text.specs.Gives.{Becomes};
+ghost use Rattle.tn_run.specs.Texts.{Anything, made_by, map_by, onto, reads_all, shown_line, shown_text, text_answer, text_in};
 ghost use Rattle.tn_run.specs.declared.texts.TextCommand.{TextCommand};
 
 use crate::refusal::refused;
@@ -23,7 +24,7 @@ use tn_call::status::Status;
 use tn_text::content::content;
 use tn_text::hex::hex_word;
 use tn_text::lines::{first_line, law_line_count};
-use tn_text::print::push_hex_word;
+use tn_text::print::push_words;
 use tn_words::command::Command;
 
 /// A command that reads a text and writes another.
@@ -40,28 +41,10 @@ pub enum TextCommand {
 /// What serves the commands on texts.
 pub(crate) struct TextService;
 
-/// Appends a word in eight lower-case hexadecimal digits.
-fn push_word(text: &mut Vec<u8>, word: u32) -> Result<(), AllocError>
-    ensures { OnOk result (text.new.items ≡ text.old.items ++ word_line word) }
-{
-    push_hex_word(text, word)?;
-    text.extend_from_slice(b"\n")?;
-    Ok(())
-}
-
-fn push_words(text: &mut Vec<u8>, words: &[u32]) -> Result<(), AllocError>
-    ensures { OnOk result (text.new.items ≡ text.old.items ++ words_text words.now) }
-{
-    for word in words {
-        push_word(text, *word)?;
-    }
-    Ok(())
-}
-
 /// Appends the words of a text of assembly.
 fn push_assembled(alloc: Global, text: &mut Vec<u8>, input: &[u8]) -> Result<(), LoadStop>
     requires { length input.now ≤ 16777216 }
-    ensures { Makes result text.new.items (onto text.old.items (made_by TextCommand.Asm input.now)) }
+    ensures { Becomes result text.new.items (onto text.old.items (made_by TextCommand.Asm input.now)) }
 {
     law_line_count(input);
     match assemble_text(alloc, input, 1) {
@@ -83,7 +66,7 @@ fn push_shown(alloc: Global, text: &mut Vec<u8>, word: u32) -> Result<(), AllocE
 
 /// Appends the canonical line of the word that a line says.
 fn push_line(alloc: Global, text: &mut Vec<u8>, number: u32, line: &[u8]) -> Result<(), LoadStop>
-    ensures { Makes result text.new.items (onto text.old.items (shown_line number line.now)) }
+    ensures { Becomes result text.new.items (onto text.old.items (shown_line number line.now)) }
 {
     let word = content(line);
     if word.is_empty() {
@@ -101,7 +84,7 @@ fn push_line(alloc: Global, text: &mut Vec<u8>, number: u32, line: &[u8]) -> Res
 /// Appends the canonical lines of the words of a text.
 fn push_lines(alloc: Global, text: &mut Vec<u8>, input: &[u8]) -> Result<(), LoadStop>
     requires { length input.now ≤ 16777216 }
-    ensures { Makes result text.new.items (onto text.old.items (made_by TextCommand.Show input.now)) }
+    ensures { Becomes result text.new.items (onto text.old.items (made_by TextCommand.Show input.now)) }
 {
     law_line_count(input);
     let mut number = 1;
@@ -118,7 +101,7 @@ fn push_lines(alloc: Global, text: &mut Vec<u8>, input: &[u8]) -> Result<(), Loa
 fn push_mapped(alloc: Global, text: &mut Vec<u8>, job: &Job) -> Result<(), LoadStop>
     requires formed { IsWellFormed job.now }
     requires numbered { AreNumbered job.now }
-    ensures { Makes result text.new.items (onto text.old.items (map_by job.now.numbers (mapped job.now))) }
+    ensures { Becomes result text.new.items (onto text.old.items (map_by job.now.numbers (mapped job.now))) }
 {
     let shape = match shape_of(job) {
         Ok(shape) => shape,
@@ -133,16 +116,13 @@ fn push_mapped(alloc: Global, text: &mut Vec<u8>, job: &Job) -> Result<(), LoadS
 /// Appends the places and tables of the graph of the job that a text says.
 fn push_map(alloc: Global, text: &mut Vec<u8>, input: &[u8]) -> Result<(), LoadStop>
     requires { length input.now ≤ 16777216 }
-    ensures { Makes result text.new.items (onto text.old.items (made_by TextCommand.Map input.now)) }
+    ensures { Becomes result text.new.items (onto text.old.items (made_by TextCommand.Map input.now)) }
 {
     law_line_count(input);
     match read_job(alloc, input) {
         Ok(job) => push_mapped(alloc, text, &job),
         Err(JobStop::Memory) => Err(LoadStop::Memory),
-        Err(JobStop::Fault(fault)) => Err(LoadStop::Fault(LoadFault {
-            line: fault.line,
-            kind: FaultName::of_text(fault.kind),
-        })),
+        Err(JobStop::Fault(fault)) => Err(LoadStop::Fault(LoadFault::of_job(fault))),
     }
 }
 
@@ -153,7 +133,7 @@ fn push_made(
     input: &[u8],
 ) -> Result<(), LoadStop>
     requires { length input.now ≤ 16777216 }
-    ensures { Makes result text.new.items (onto text.old.items (made_by command input.now)) }
+    ensures { Becomes result text.new.items (onto text.old.items (made_by command input.now)) }
 {
     match command {
         TextCommand::Asm => push_assembled(alloc, text, input),

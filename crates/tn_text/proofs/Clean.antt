@@ -1,14 +1,17 @@
 -- Lines of words, and what reading makes of them.
-use Rattle.std.proofs.Common.{◌≡◌, ℕ, ◌-◌, Bool, true, false, not, ◌&&◌, ◌||◌, leb, eqb, List, [], ◌∷◌, ◌++◌, length, reverse, filter, flat_map, refl, ap, ◌∙◌, arith, take_all, append-nil, one-add}
+use Rattle.std.proofs.Common.{◌≡◌, ℕ, ◌-◌, Bool, true, false, not, ◌&&◌, ◌||◌, leb, eqb, List, [], ◌∷◌, ◌++◌, length, reverse, filter, flat_map, refl, sym, subst, ap, ◌∙◌, ◌<◌, ◌+◌, take, drop, arith, take_all, append-nil, append_assoc, one-add}
 use Rattle.std.specs.List.{list_all, prefix_len, suffix_len, slice_split, onto_first}
 use Rattle.std.proofs.lemmas.Bool.{and_parts, and_from}
 use Rattle.std.proofs.lemmas.Bool.Decides.{nat_tests}
+use Rattle.std.proofs.lemmas.Grind.{common_steps}
 use Rattle.std.proofs.lemmas.List.{reverse-append}
 use Rattle.std.proofs.lemmas.List.Folds.{list_all-append}
 use Rattle.std.proofs.lemmas.List.Splits.{slice_split-cons_no}
 use Rattle.tn_text.specs.Lines.{is_feed, lines_of}
-use Rattle.tn_text.specs.Content.{is_space, is_hash, may_stand, before_comment, content_of, trimmed, is_plain}
+use Rattle.tn_text.specs.Content.{is_space, is_hash, may_stand, before_comment, content_of, trimmed, is_plain, without_back_spaces, without_front_spaces}
 use Rattle.tn_text.specs.Words.{is_some_text, words_of, spaced}
+use Rattle.tn_text.proofs.FirstLine.{lines_of-parted}
+use Rattle.tn_text.proofs.Parts.{lacks_all}
 
 -- a byte of a word: none that a reader passes over
 abbrev pub clean : ℕ → Bool
@@ -35,6 +38,11 @@ pub record IsWord (w : List ℕ) : Type 0 where
   pub bytes : list_all clean w ≡ true
   pub some : is_some_text w ≡ true
 
+-- a test that passes where another does
+pub all_pass : (p q : ℕ → Bool) → ((b : ℕ) → p b ≡ true → q b ≡ true) → (w : List ℕ) → list_all p w ≡ true → list_all q w ≡ true
+all_pass p q f [] h = refl
+all_pass p q f (b ∷ bs) h = let both = and_parts (p b) (list_all p bs) h in and_from (q b) (list_all q bs) (f b both.0) (all_pass p q f bs both.1)
+
 clean-space : (b : ℕ) → clean b ≡ true → is_space b ≡ false
 clean-space b h = grind (arith, nat_tests)
 
@@ -58,12 +66,6 @@ lines_of-line (b ∷ bs) rest h =
     let more = lines_of-line bs rest both.1 in
     rw (e, more) refl
 
-may_all : (l : List ℕ) → list_all line_byte l ≡ true → list_all may_stand l ≡ true
-may_all [] h = refl
-may_all (b ∷ bs) h =
-    let both = and_parts (line_byte b) (list_all line_byte bs) h in
-    and_from (may_stand b) (list_all may_stand bs) (line_byte-may b both.0) (may_all bs both.1)
-
 no_hash : (l : List ℕ) → list_all line_byte l ≡ true → before_comment l ≡ l
 no_hash [] h = refl
 no_hash (b ∷ bs) h =
@@ -73,7 +75,7 @@ no_hash (b ∷ bs) h =
     rw (e, one-add) (ap (λ (xs : List ℕ). b ∷ xs) more)
 
 pub plain_line : (l : List ℕ) → IsLine l → is_plain l ≡ true
-plain_line l h = let e = no_hash l h.bytes in rw e (may_all l h.bytes)
+plain_line l h = let e = no_hash l h.bytes in rw e (all_pass line_byte may_stand line_byte-may l h.bytes)
 
 last_of : (l : List ℕ) → ends_clean l ≡ true → (ys : List ℕ) × (z : ℕ) × (l ≡ ys ++ z ∷ []) × (clean z ≡ true)
 last_of [] h = cc
@@ -91,7 +93,10 @@ no_front_space : (l : List ℕ) → begins_clean l ≡ true → prefix_len is_sp
 no_front_space [] h = refl
 no_front_space (b ∷ bs) h = let s = clean-space b h in rw s refl
 
-trimmed_line : (l : List ℕ) → IsLine l → trimmed l ≡ l
+pub without_front_is : (l : List ℕ) → IsLine l → without_front_spaces l ≡ l
+without_front_is l h = let f = no_front_space l h.begins in rw f refl
+
+pub trimmed_line : (l : List ℕ) → IsLine l → trimmed l ≡ l
 trimmed_line l h =
     let f = no_front_space l h.begins in
     let b = no_back_space l h.ends in
@@ -99,6 +104,27 @@ trimmed_line l h =
 
 pub content_line_is : (l : List ℕ) → IsLine l → content_of l ≡ l
 content_line_is l h = let e = no_hash l h.bytes in ap trimmed e ∙ trimmed_line l h
+
+after_space : (l : List ℕ) → without_front_spaces (32 ∷ l) ≡ without_front_spaces l
+after_space l = rw one-add refl
+
+pub trimmed_behind : (l : List ℕ) → IsLine l → trimmed (32 ∷ l) ≡ l
+trimmed_behind l h = ap without_back_spaces (after_space l) ∙ trimmed_line l h
+
+pub some_bytes : (l : List ℕ) → begins_clean l ≡ true → 0 < length l
+some_bytes [] h = cc
+some_bytes (b ∷ bs) h = omega arith
+
+line_byte-no_feed : (b : ℕ) → line_byte b ≡ true → not (eqb b 10) ≡ true
+line_byte-no_feed b h = grind (arith, nat_tests)
+
+-- a text without a line feed is one line
+pub one_line : (l : List ℕ) → IsLine l → lines_of l ≡ l ∷ []
+one_line l h =
+    let e = lacks_all 10 l (all_pass line_byte (λ b. not (eqb b 10)) line_byte-no_feed l h.bytes) in
+    let front : take (length l) l ≡ l = take_all (length l) l (omega arith) in
+    let rest : drop (length l + 1) l ≡ [] = grind (arith, common_steps) in
+    lines_of-parted l (some_bytes l h.begins) ∙ rw (e, front, rest) refl
 
 filter-word : (w : List ℕ) (ws : List (List ℕ)) → is_some_text w ≡ true → filter is_some_text (w ∷ ws) ≡ w ∷ filter is_some_text ws
 filter-word w ws h = rw h refl
@@ -128,10 +154,7 @@ words_of-line w (v ∷ vs) h hs =
     ∙ ap (λ (xs : List (List ℕ)). w ∷ xs) (words_of-line v vs hs.0 hs.1)
 
 clean_line_bytes : (w : List ℕ) → list_all clean w ≡ true → list_all line_byte w ≡ true
-clean_line_bytes [] h = refl
-clean_line_bytes (b ∷ bs) h =
-    let both = and_parts (clean b) (list_all clean bs) h in
-    and_from (line_byte b) (list_all line_byte bs) (clean-line_byte b both.0) (clean_line_bytes bs both.1)
+clean_line_bytes w h = all_pass clean line_byte clean-line_byte w h
 
 line_bytes : (w : List ℕ) (ws : List (List ℕ)) → IsWord w → AreWords ws → list_all line_byte (w ++ flat_map spaced ws) ≡ true
 line_bytes w [] h hs = ap (list_all line_byte) (append-nil w) ∙ clean_line_bytes w h.bytes
@@ -166,3 +189,19 @@ line_of_words w ws h hs = record {
   begins = line_begins w (flat_map spaced ws) h;
   ends = line_ends w ws h hs;
 }
+
+pub word_line : (w : List ℕ) → IsWord w → IsLine w
+word_line w h = subst IsLine (append-nil w) (line_of_words w [] h tt)
+
+-- words as texts are printed
+
+pub spaced_one : (w a : List ℕ) → w ++ spaced a ≡ w ++ flat_map spaced (a ∷ [])
+spaced_one w a = ap (λ (xs : List ℕ). w ++ 32 ∷ xs) (sym (append-nil a))
+
+pub spaced_two : (w a b : List ℕ) → w ++ spaced a ++ spaced b ≡ w ++ flat_map spaced (a ∷ b ∷ [])
+spaced_two w a b = append_assoc w (spaced a) (spaced b) ∙ ap (λ (xs : List ℕ). w ++ (spaced a ++ 32 ∷ xs)) (sym (append-nil b))
+
+pub spaced_three : (w a b c : List ℕ) → w ++ spaced a ++ spaced b ++ spaced c ≡ w ++ flat_map spaced (a ∷ b ∷ c ∷ [])
+spaced_three w a b c =
+    append_assoc (w ++ spaced a) (spaced b) (spaced c) ∙ append_assoc w (spaced a) (spaced b ++ spaced c)
+    ∙ ap (λ (xs : List ℕ). w ++ (spaced a ++ (spaced b ++ 32 ∷ xs))) (sym (append-nil c))

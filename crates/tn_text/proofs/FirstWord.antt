@@ -1,11 +1,12 @@
 -- The words of a line.
 use Rattle.std.proofs.Common.{◌≡◌, ℕ, ◌+◌, ◌-◌, ◌<◌, ◌≤◌, suc, true, false, List, [], ◌∷◌, length, take, drop, get_or, filter, refl, sym, ap, ◌∙◌, ⊎_elim, one-add, add-one, arith, length-drop, length-take, drop-cons}
-use Rattle.std.specs.List.{before_first, after_first, position_or_len, prefix_len, slice_split, onto_first}
+use Rattle.std.specs.List.{before_first, after_first, position_or_len, prefix_len, slice_split}
 use Rattle.std.proofs.lemmas.Bool.{cases_Bool, cases_lt}
 use Rattle.std.proofs.lemmas.Grind.{common_steps}
 use Rattle.std.proofs.lemmas.List.{take_rest}
-use Rattle.std.proofs.lemmas.List.Splits.{slice_split_first, slice_split-cons_no}
+use Rattle.std.proofs.lemmas.List.Splits.{slice_split_first}
 use Rattle.std.proofs.lemmas.List.Sums.{passes_at_first}
+use Rattle.tn_text.proofs.Parts.{split_whole}
 use Rattle.tn_text.specs.Content.{is_space, without_front_spaces}
 use Rattle.tn_text.specs.Words.{is_some_text, words_of, StartsWord}
 
@@ -37,20 +38,12 @@ front_first (c ∷ cs) b xs e =
     ⊎_elim (λ s. front_first cs b xs (sym (front_space c cs s) ∙ e))
     (λ s. let f : c ∷ cs ≡ b ∷ xs = sym (front_byte c cs s) ∙ e in cc) (cases_Bool (is_space c))
 
--- where no space stands, the bytes are the one part
-split_whole : (xs : List ℕ) → length xs ≤ position_or_len is_space xs → slice_split is_space xs ≡ xs ∷ []
-split_whole [] h = refl
-split_whole (x ∷ xs) h =
-    ⊎_elim (λ s. let k : length (x ∷ xs) ≤ 0 = rw s at h in absurd (omega (arith, k)))
-    (λ s. let k : length (x ∷ xs) ≤ 1 + position_or_len is_space xs = rw s at h in
-    let more = split_whole xs (omega (arith, k)) in slice_split-cons_no is_space x xs s ∙ ap (onto_first x) more) (cases_Bool (is_space x))
-
 words_whole : (xs : List ℕ) → 0 < length xs → length xs ≤ position_or_len is_space xs
     → words_of xs ≡ before_first is_space xs ∷ words_of (drop (position_or_len is_space xs) xs)
 words_whole xs some h =
     let e : take (position_or_len is_space xs) xs ≡ xs = grind (arith, common_steps) in
     let f : drop (position_or_len is_space xs) xs ≡ [] = grind (arith, common_steps) in
-    let g = split_whole xs h in
+    let g = split_whole is_space xs h in
     rw (e, f, g) (filter-some xs [] some)
 
 words_parted : (xs : List ℕ) → 0 < position_or_len is_space xs → position_or_len is_space xs < length xs

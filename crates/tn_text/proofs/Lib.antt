@@ -1,3 +1,4 @@
+pub mod Parts
 pub mod FirstLine
 pub mod FirstWord
 pub mod Digits
@@ -6,3 +7,4 @@ pub mod Joined
 pub mod Says
 pub mod ReadFrom
 pub mod Clean
+pub mod PrintedWords

@@ -14,11 +14,11 @@ use Rattle.tn_text.specs.declared.numbers.Numeral.TheVariants.{Value}
 use Rattle.tn_text.specs.Numbers.{number_of}
 use Rattle.tn_text.specs.Hex.{is_hex_digit, hex_byte_of, hex_bytes_of, hex_word_of, hex_text, hex_word_text}
 
-all_pass : (radix : ℕ) (text : List ℕ) → AllDigits radix text → list_all (λ b. is_digit b radix) text ≡ true
-all_pass radix [] h = refl
-all_pass radix (b ∷ bs) h = and_from (is_digit b radix) (list_all (λ c. is_digit c radix) bs) (lt-ltb (digit_value b) radix h.0) (all_pass radix bs h.1)
+pub digits_pass : (radix : ℕ) (text : List ℕ) → AllDigits radix text → list_all (λ b. is_digit b radix) text ≡ true
+digits_pass radix [] h = refl
+digits_pass radix (b ∷ bs) h = and_from (is_digit b radix) (list_all (λ c. is_digit c radix) bs) (lt-ltb (digit_value b) radix h.0) (digits_pass radix bs h.1)
 
-not_x : (b : ℕ) → digit_value b < 10 → eqb b 120 ≡ false
+pub not_x : (b : ℕ) → digit_value b < 10 → eqb b 120 ≡ false
 not_x b h = grind (arith, nat_tests)
 
 -- decimal digits do not begin with `0x`
@@ -31,12 +31,12 @@ pub decimal_read_back : (n : ℕ) → n < 2 ^ 32 → number_of (decimal n) ≡ V
 decimal_read_back n h =
     let own = decimal_is_IsNumeral n (omega arith) in
     let plain = no_prefix (decimal n) own.0.1 in
-    let digits = all_pass 10 (decimal n) own.0.1 in
+    let digits = digits_pass 10 (decimal n) own.0.1 in
     let some = lt-ltb 0 (length (decimal n)) own.0.0 in
     let fits = lt-ltb n (2 ^ 32) h in
     rw (plain, some, digits, own.1, fits) refl
 
-digit_back : (d : ℕ) → d < 16 → digit_value (digit_char d) ≡ d
+pub digit_back : (d : ℕ) → d < 16 → digit_value (digit_char d) ≡ d
 digit_back d h = ⊎_elim (λ low. grind (arith, nat_tests)) (λ high. grind (arith, nat_tests)) (cases_lt d 10)
 
 hex_digit_back : (d : ℕ) → d < 16 → is_hex_digit (digit_char d) ≡ true
@@ -66,14 +66,14 @@ digits_back : (ds : List ℕ) → AllBelowBase 16 ds → map digit_value (map di
 digits_back [] h = refl
 digits_back (d ∷ ds) h = let e = digit_back d h.0 in let f = digits_back ds h.1 in rw (e, f) refl
 
-digits_pass : (ds : List ℕ) → AllBelowBase 16 ds → list_all is_hex_digit (map digit_char ds) ≡ true
-digits_pass [] h = refl
-digits_pass (d ∷ ds) h = and_from (is_hex_digit (digit_char d)) (list_all is_hex_digit (map digit_char ds)) (hex_digit_back d h.0) (digits_pass ds h.1)
+chars_pass : (ds : List ℕ) → AllBelowBase 16 ds → list_all is_hex_digit (map digit_char ds) ≡ true
+chars_pass [] h = refl
+chars_pass (d ∷ ds) h = and_from (is_hex_digit (digit_char d)) (list_all is_hex_digit (map digit_char ds)) (hex_digit_back d h.0) (chars_pass ds h.1)
 
 word_back : (text ds : List ℕ) (n : ℕ) → text ≡ map digit_char ds → length text ≡ 8 → AllBelowBase 16 ds → number_from_digits 16 ds ≡ n
     → hex_word_of text ≡ Some n
 word_back text ds n e len small value =
-    let pass : list_all is_hex_digit text ≡ true = rw e (digits_pass ds small) in
+    let pass : list_all is_hex_digit text ≡ true = rw e (chars_pass ds small) in
     let is : digits_value 16 text ≡ n = digits_value_is 16 text ∙ ap (number_from_digits 16) (ap (map digit_value) e ∙ digits_back ds small) ∙ value in
     rw (len, pass, is) refl
 

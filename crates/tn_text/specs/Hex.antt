@@ -1,8 +1,9 @@
 -- Bytes and words in hexadecimal digits.
-use Rattle.std.specs.Prelude.{ℕ, ◌+◌, ◌*◌, ◌/◌, ◌%◌, ◌^◌, ◌==◌, ◌&&◌, Bool, List, [], ◌∷◌, length, if◌then◌else◌, Option, Some, None, flat_map}
+use Rattle.std.specs.Prelude.{ℕ, ◌+◌, ◌++◌, ◌*◌, ◌/◌, ◌%◌, ◌^◌, ◌==◌, ◌&&◌, Bool, List, [], ◌∷◌, length, if◌then◌else◌, Option, Some, None, flat_map}
 use Rattle.std.specs.List.{list_all}
 use Rattle.std.specs.Char.{is_digit, digit_value, digit_char}
 use Rattle.std.specs.Str.Parse.{digits_value}
+use Rattle.tn_text.specs.Lines.{feed}
 
 abbrev pub is_hex_digit : ℕ → Bool
 is_hex_digit b = is_digit b 16
@@ -40,3 +41,11 @@ hex_text bytes = flat_map byte_text bytes
 -- a number below 2 ^ 32 in eight digits
 abbrev pub hex_word_text : ℕ → List ℕ
 hex_word_text n = hex_text (n / 2 ^ 24 ∷ n / 2 ^ 16 % 256 ∷ n / 2 ^ 8 % 256 ∷ n % 256 ∷ [])
+
+-- the line of a word: its eight digits
+abbrev pub word_text : ℕ → List ℕ
+word_text word = hex_word_text word ++ feed
+
+-- the lines of words, in order
+abbrev pub words_text : List ℕ → List ℕ
+words_text words = flat_map word_text words

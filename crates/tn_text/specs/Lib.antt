@@ -1,5 +1,6 @@
 pub mod Lines
 pub mod Content
+pub mod Cut
 pub mod Words
 pub mod Numbers
 pub mod NumberLists

@@ -6,6 +6,10 @@ use Rattle.std.specs.List.{before_first, after_first}
 abbrev pub is_feed : ℕ → Bool
 is_feed b = b == 10
 
+-- a line feed, with which a printed line ends
+abbrev pub feed : List ℕ
+feed = 10 ∷ []
+
 -- a byte before a line feed goes onto the first line
 abbrev pub onto_line : ℕ → List (List ℕ) → List (List ℕ)
 onto_line b [] = (b ∷ []) ∷ []

@@ -3,7 +3,7 @@
 ghost use Rattle.std.specs.Prelude.{◌≡◌};
 ghost use Rattle.tn_text.specs.Content.{before_comment as before_comment_of, content_of, is_plain as plain_line, is_space as is_space_byte, trimmed as trimmed_of, without_back_spaces, without_front_spaces, may_stand as may_stand_byte};
 
-use crate::lines::place_of;
+use crate::cut::place_of;
 
 /// A space, a tab or a carriage return.
 pub fn is_space(byte: u8) -> bool

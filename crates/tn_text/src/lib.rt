@@ -6,6 +6,7 @@
 #![tactic(auto)]
 
 pub mod content;
+pub mod cut;
 pub mod hex;
 pub mod items;
 pub mod lines;

@@ -1,8 +1,11 @@
 //! The names of texts.
 
-ghost use Rattle.std.specs.Prelude.{◌≡◌};
+ghost use Rattle.std.specs.Prelude.{◌≡◌, IfOk};
 ghost use Rattle.std.specs.List.{list_all};
 ghost use Rattle.tn_text.specs.Names.{is_name as is_name_text, is_name_start as is_name_start_byte, is_name_byte as is_name_byte_at};
+
+use std::alloc::{AllocError, Global};
+use tn_base::name::Name;
 
 fn is_name_start(byte: u8) -> bool
     ensures { result ≡ is_name_start_byte byte }
@@ -30,4 +33,12 @@ pub fn is_name(text: &[u8]) -> bool
         [] => false,
         [first, rest @ ..] => is_name_start(*first) && rest.len() < 32 && are_name_bytes(rest),
     }
+}
+
+/// A name of these bytes.
+pub fn copy_name(alloc: Global, text: &[u8]) -> Result<Name, AllocError>
+    ensures { IfOk result (λ name. name ≡ text.now) }
+{
+    let bytes = Vec::from_slice(alloc, text)?;
+    Ok(Name::of(bytes))
 }

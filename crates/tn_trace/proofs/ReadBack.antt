@@ -2,17 +2,12 @@
 use Rattle.std.proofs.Common.{◌≡◌, ◌∙◌, Option, Some, ℕ, ◌+◌, ◌^◌, ◌<◌, true, List, [], ◌∷◌, ◌++◌, codes, length, take, flat_map, refl, ap, sym, get_or, append_assoc, append-nil, arith, take_all, ◌≤◌, subst}
 use Rattle.std.specs.declared.result.Result.{Result}
 use Rattle.std.specs.declared.result.Result.TheVariants.{Ok}
-use Rattle.std.specs.Char.{is_digit, digit_value}
 use Rattle.std.specs.Fmt.{decimal}
 use Rattle.std.specs.List.{list_all}
-use Rattle.std.specs.Str.Parse.{AllDigits}
-use Rattle.std.proofs.lemmas.Bool.{and_from, lt-ltb}
-use Rattle.std.proofs.lemmas.Bool.Decides.{nat_tests}
 use Rattle.std.proofs.lemmas.List.{take_more}
-use Rattle.std.proofs.lemmas.Fmt.{decimal_is_IsNumeral}
 use Rattle.tn_base.specs.declared.event.Event.{Event}
 use Rattle.tn_base.specs.declared.event.Event.TheVariants.{Turn, Deliver, Depart, Arrive, Route, HostPut, HostTake, Report, Begin, Confirm, Announce, Release, Go}
-use Rattle.tn_text.specs.Lines.{lines_of}
+use Rattle.tn_text.specs.Lines.{feed, lines_of}
 use Rattle.tn_text.specs.Numbers.{decimal_of}
 use Rattle.tn_text.specs.Words.{is_some_text}
 use Rattle.tn_text.specs.declared.numbers.Numeral.TheVariants.{Value}
@@ -20,41 +15,12 @@ use Rattle.tn_text.specs.declared.stop.Fault.{Fault}
 use Rattle.tn_trace.specs.declared.read.TraceKind.{TraceKind}
 use Rattle.tn_trace.specs.declared.read.TraceKind.TheVariants.{BadLine}
 use Rattle.tn_text.specs.Words.{spaced}
-use Rattle.tn_trace.specs.Events.{AreEvents, IsEvent, alone, event_text, events_text, feed, with_one, with_two}
+use Rattle.tn_trace.specs.Events.{AreEvents, IsEvent, alone, event_text, events_text, with_one, with_two}
 use Rattle.tn_trace.specs.Reading.{event_line, events_of, text_line, words_say}
 use Rattle.tn_text.specs.Reading.{line_says, said_before}
 use Rattle.tn_text.proofs.Says.{line_said}
-use Rattle.tn_text.proofs.Clean.{AreWords, IsWord, clean, content_line_is, line_of_words, lines_of-line, plain_line, words_of-line}
-
--- Numbers.
-
-all_pass : (text : List ℕ) → AllDigits 10 text → list_all (λ b. is_digit b 10) text ≡ true
-all_pass [] h = refl
-all_pass (b ∷ bs) h = and_from (is_digit b 10) (list_all (λ c. is_digit c 10) bs) (lt-ltb (digit_value b) 10 h.0) (all_pass bs h.1)
-
-value : (n : ℕ) → n < 2 ^ 32 → decimal_of (decimal n) ≡ Value n
-value n h =
-    let own = decimal_is_IsNumeral n (omega arith) in
-    let digits = all_pass (decimal n) own.0.1 in
-    let some = lt-ltb 0 (length (decimal n)) own.0.0 in
-    let fits = lt-ltb n (2 ^ 32) h in
-    rw (some, digits, own.1, fits) refl
-
-digit_clean : (b : ℕ) → digit_value b < 10 → clean b ≡ true
-digit_clean b h = grind (arith, nat_tests)
-
-digits_clean : (ds : List ℕ) → AllDigits 10 ds → list_all clean ds ≡ true
-digits_clean [] h = refl
-digits_clean (d ∷ ds) h = and_from (clean d) (list_all clean ds) (digit_clean d h.0) (digits_clean ds h.1)
-
-some_from : (w : List ℕ) → 0 < length w → is_some_text w ≡ true
-some_from [] h = absurd (omega arith)
-some_from (b ∷ bs) h = refl
-
-word : (n : ℕ) → n < 2 ^ 32 → IsWord (decimal n)
-word n h =
-    let own = decimal_is_IsNumeral n (omega arith) in
-    record { bytes = digits_clean (decimal n) own.0.1; some = some_from (decimal n) own.0.0 }
+use Rattle.tn_text.proofs.Clean.{AreWords, IsWord, clean, content_line_is, line_of_words, lines_of-line, plain_line, spaced_one, spaced_two, words_of-line}
+use Rattle.tn_text.proofs.PrintedWords.{decimal_of_decimal, decimal_word}
 
 -- Lines.
 
@@ -86,11 +52,10 @@ says_by e w ws h hs text made = record {
 }
 
 one_is : (w a : List ℕ) → w ++ spaced a ++ feed ≡ (w ++ flat_map spaced (a ∷ [])) ++ feed
-one_is w a = ap (λ (xs : List ℕ). w ++ xs ++ feed) (sym (append-nil (spaced a)))
+one_is w a = ap (λ (xs : List ℕ). xs ++ feed) (spaced_one w a)
 
 two_is : (w a b : List ℕ) → w ++ spaced a ++ spaced b ++ feed ≡ (w ++ flat_map spaced (a ∷ b ∷ [])) ++ feed
-two_is w a b =
-    ap (λ (xs : List ℕ). xs ++ feed) (append_assoc w (spaced a) (spaced b) ∙ ap (λ (xs : List ℕ). w ++ (spaced a ++ xs)) (sym (append-nil (spaced b))))
+two_is w a b = ap (λ (xs : List ℕ). xs ++ feed) (spaced_two w a b)
 
 none_is : (w : List ℕ) → w ++ feed ≡ (w ++ flat_map spaced []) ++ feed
 none_is w = ap (λ (xs : List ℕ). xs ++ feed) (sym (append-nil w))
@@ -98,11 +63,11 @@ none_is w = ap (λ (xs : List ℕ). xs ++ feed) (sym (append-nil w))
 says_two : (e : Event) (w : List ℕ) (a b : ℕ) → IsWord w → a < 2 ^ 32 → b < 2 ^ 32 → event_text e ≡ with_two w a b
     → (decimal_of (decimal a) ≡ Value a → decimal_of (decimal b) ≡ Value b → words_say (w ∷ decimal a ∷ decimal b ∷ []) ≡ Ok e) → Says e
 says_two e w a b h f g text made =
-    says_by e w (decimal a ∷ decimal b ∷ []) h (word a f, (word b g, tt)) (text ∙ two_is w (decimal a) (decimal b)) (made (value a f) (value b g))
+    says_by e w (decimal a ∷ decimal b ∷ []) h (decimal_word a f, (decimal_word b g, tt)) (text ∙ two_is w (decimal a) (decimal b)) (made (decimal_of_decimal a f) (decimal_of_decimal b g))
 
 says_one : (e : Event) (w : List ℕ) (a : ℕ) → IsWord w → a < 2 ^ 32 → event_text e ≡ with_one w a
     → (decimal_of (decimal a) ≡ Value a → words_say (w ∷ decimal a ∷ []) ≡ Ok e) → Says e
-says_one e w a h f text made = says_by e w (decimal a ∷ []) h (word a f, tt) (text ∙ one_is w (decimal a)) (made (value a f))
+says_one e w a h f text made = says_by e w (decimal a ∷ []) h (decimal_word a f, tt) (text ∙ one_is w (decimal a)) (made (decimal_of_decimal a f))
 
 says_alone : (e : Event) (w : List ℕ) → IsWord w → event_text e ≡ alone w → words_say (w ∷ []) ≡ Ok e → Says e
 says_alone e w h text made = says_by e w [] h tt (text ∙ none_is w) made

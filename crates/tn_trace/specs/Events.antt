@@ -1,11 +1,9 @@
 -- The lines of events.
 use Rattle.std.specs.Prelude.{ℕ, ◌^◌, ◌<◌, List, [], ◌∷◌, ◌++◌, codes, decimal, flat_map}
 use Rattle.tn_base.specs.declared.event.Event.{Event}
+use Rattle.tn_text.specs.Lines.{feed}
 use Rattle.tn_text.specs.Words.{spaced}
 use Rattle.tn_base.specs.declared.event.Event.TheVariants.{Turn, Deliver, Depart, Arrive, Route, HostPut, HostTake, Report, Begin, Confirm, Announce, Release, Go}
-
-abbrev pub feed : List ℕ
-feed = 10 ∷ []
 
 -- a name alone, and a name followed by one number or two
 abbrev pub alone : List ℕ → List ℕ

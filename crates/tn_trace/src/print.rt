@@ -1,18 +1,10 @@
 //! Printing events.
-ghost use Rattle.std.specs.Prelude.{◌≡◌, ◌++◌, IfOk, OnOk, decimal};
-ghost use Rattle.tn_text.specs.Words.{spaced};
+ghost use Rattle.std.specs.Prelude.{◌≡◌, ◌++◌, IfOk, OnOk};
 ghost use Rattle.tn_trace.specs.Events.{alone, event_text, events_text, with_one, with_two};
 
 use std::alloc::{AllocError, Global};
 use tn_base::event::Event;
-use tn_text::print::push_decimal;
-
-fn push_number(alloc: Global, text: &mut Vec<u8>, number: u32) -> Result<(), AllocError>
-    ensures { OnOk result (text.new.items ≡ text.old.items ++ spaced (decimal number)) }
-{
-    text.push(b' ')?;
-    push_decimal(alloc, text, number)
-}
+use tn_text::print::push_number;
 
 fn push_alone(text: &mut Vec<u8>, name: &[u8]) -> Result<(), AllocError>
     ensures { OnOk result (text.new.items ≡ text.old.items ++ alone name.now) }

@@ -1,5 +1,5 @@
 use Rattle.std.proofs.Common.{◌≡◌, length}
-use Rattle.asm_text.specs.Cut.{parts_at}
+use Rattle.tn_text.specs.Cut.{parts_at}
 use Rattle.asm_text.specs.Arguments.{args_of}
 use Rattle.asm_text.specs.Reading.{joined}
 use Rattle.asm_text.proofs.arguments.read_parts.Given as goal
