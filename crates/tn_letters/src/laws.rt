@@ -1,6 +1,6 @@
 //! Laws of runs. A law answers nothing: its contract is what it says.
 
-ghost use Rattle.tn_letters.specs.Conserved.{EveryRunConserves, EveryRunHands};
+ghost use Rattle.tn_letters.specs.Conserved.{EveryRunConserves, EveryRunHands, EveryRunHandsTheHost};
 ghost use Rattle.tn_letters.specs.Law.{EveryRunIsBagRun};
 ghost use Rattle.tn_letters.specs.SlotLaw.{EveryEventKeepsSlots, EveryRunKeepsSlots};
 
@@ -12,10 +12,11 @@ pub fn law_runs()
 
 /// Letters are conserved in each run of the bag machine: those that were in flight and those that its steps sent are those
 /// in flight at its end and those that were handed, taken by the host or dropped, each as often. And a thread got what the
-/// steps handed to it, in their order.
+/// steps handed to it, in their order. The host got what it took in the steps, in their order.
 pub fn law_letters()
     ensures conserved { EveryRunConserves }
     ensures handed { EveryRunHands }
+    ensures taken { EveryRunHandsTheHost }
 {}
 
 /// A slot keeps its message from the put of the message until the slot is free again. A slot is used if a thread is owed it or
