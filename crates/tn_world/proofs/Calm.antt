@@ -2,6 +2,7 @@
 use Rattle.std.specs.declared.option.Option.{Option}
 use Rattle.std.specs.declared.result.Result.{Result}
 use Rattle.std.specs.declared.result.Result.TheVariants.{Ok, Err}
+use Rattle.std.specs.declared.alloc.AllocError.{AllocError}
 use Rattle.std.proofs.Common.{◌≡◌, ℕ, ◌≤◌, ◌<◌, length, length-append, is_some, Bool, true, false, arith, List, [], ◌∷◌, ◌++◌, None, Some, refl, sym, subst, MatchOption, MatchResult, IsErr, ap, ◌∙◌}
 use Rattle.tn_base.specs.declared.event.Event.{Event}
 use Rattle.tn_base.specs.declared.event.Outcome.{Outcome}
@@ -15,7 +16,7 @@ use Rattle.tn_tile.specs.declared.deliver.Did.TheVariants as did_as
 use Rattle.tn_tile.specs.Turns.{moved}
 use Rattle.tn_world.proofs.Crossings.{does_some}
 use Rattle.tn_world.proofs.Listed.{first_some, is_here}
-use Rattle.tn_world.specs.Plays.{First, Makes, Played, Reached}
+use Rattle.tn_world.specs.Plays.{First, Makes, MakesOr, Played, Reached}
 
 -- each event is enabled in turn, turns are the longest, and none is final
 abbrev pub Calm : WorldView → List Event → WorldView → Type 0
@@ -116,6 +117,10 @@ pub reached : (limit : ℕ) (start : WorldView) (history : List Event) (mid end 
 reached limit start history mid end e calm less step =
     (history ++ e ∷ [], omega (arith, less, length-append history (e ∷ [])), calm_final start history mid end e calm step, final_longest start history mid end e calm step)
 
+-- where nothing more was made
+pub reached_same : (limit : ℕ) (start : WorldView) (history : List Event) (mid end : WorldView) → Calm start history mid → length history ≤ limit → end ≡ mid → Reached limit start end
+reached_same limit start history mid end calm few same = rw same (history, few, calm_runs start history mid calm, calm_longest start history mid calm)
+
 -- a call that failed
 pub on_error : {X E : Type 0} (r : Result X E) (P : X → Type 0) (Q : Type 0) → IsErr r → Q → MatchResult r P (λ _. Q)
 on_error (Ok x) P Q err q = cc err
@@ -140,5 +145,6 @@ by_made None old new xs e first made =
     let clash : true ≡ false = sym some ∙ none in cc clash
 by_made (Some m) old new xs e first made = made
 
-pub next_made : (r : Option Event) (old mid new : WorldView) (xs : List Event) (e : Event) → mid ≡ old → First mid xs e → MatchOption r ((new ≡ mid) × (happened e mid ≡ None)) (λ m. Makes m mid new) → MatchOption r ((new ≡ old) × Rests old) (λ m. Makes m old new)
-next_made r old mid new xs e same first made = subst (λ (o : WorldView). MatchOption r ((new ≡ o) × Rests o) (λ m. Makes m o new)) same (by_made r mid new xs e first made)
+pub first_made : (r : Result (Option Event) AllocError) (old new : WorldView) (xs : List Event) (e : Event) → First old xs e → MakesOr r (happened e old ≡ None) old new → MakesOr r (Rests old) old new
+first_made (Ok o) old new xs e first made = by_made o old new xs e first made
+first_made (Err x) old new xs e first made = made

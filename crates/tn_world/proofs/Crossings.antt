@@ -3,6 +3,7 @@ use Rattle.std.proofs.Common.{◌≡◌, ◌∙◌, ℕ, Bool, true, false, None
 use Rattle.std.specs.Int.{w64}
 use Rattle.std.specs.Int.RustNames.{FitsSigned}
 use Rattle.std.specs.Prelude.{ℤ, int_lt, neg_ℤ, pos}
+use Rattle.std.proofs.lemmas.Bool.{and_parts}
 use Rattle.std.proofs.lemmas.Int.{to_z-of_z}
 use mir.Val.{of_z, to_z}
 use Rattle.std.specs.declared.option.Option.{Option}
@@ -15,17 +16,19 @@ use Rattle.tn_base.specs.Does.{Does}
 use Rattle.tn_base.specs.declared.message.Packet.{Packet}
 use Rattle.tn_link.specs.LinkRows.{front_of, put_in, take_from}
 use Rattle.tn_link.specs.LinkView.{LinkView}
-use Rattle.tn_node.specs.NodeRows.{offered}
+use Rattle.tn_host.specs.HostView.{HostState}
+use Rattle.tn_host.specs.Rows.{can_depart as can_put_at, departed as host_departed, offered as host_offers, took}
+use Rattle.tn_node.specs.NodeRows.{can_arrive as can_take_at, offered}
 use Rattle.tn_router.specs.declared.state.RouterState.{RouterState}
 use Rattle.tn_router.specs.RouterView.{RouterPlan, RouterView, now_by as router_now_by}
 use Rattle.tn_router.specs.Rows.{accept_row as router_accepts, can_accept, depart_row as router_departs, received as router_received}
-use Rattle.tn_rows.proofs.Meeting.{and_true, arrives, can_depart, departed, if_some, router_can_arrive, router_can_depart, router_cannot_arrive, router_departed, some_mapped}
+use Rattle.tn_rows.proofs.Meeting.{and_true, arrives, can_depart, can_put as host_can_put, can_take as host_can_take, departed, if_some, puts as host_puts, takes as host_takes, router_can_arrive, router_can_depart, router_cannot_arrive, router_departed, some_mapped}
 use Rattle.tn_tile.specs.Rows.{accept_row, accepted, came, can_count, depart_row}
 use Rattle.tn_tile.specs.declared.state.TileState.{TileState}
 use Rattle.tn_tile.specs.TileView.{TilePlan, TileView, now_by}
 use Rattle.tn_stamp.specs.declared.entry.Crossing.TheVariants as crossing
 use Rattle.tn_rows.specs.Events.{Met, after, meets}
-use Rattle.tn_rows.specs.PartView.{PartView, TileV, RouterV, LinkV}
+use Rattle.tn_rows.specs.PartView.{PartView, TileV, RouterV, LinkV, HostV}
 use Rattle.tn_rows.specs.Places.{link_side, link_way}
 use Rattle.tn_world.specs.Joint.{DoesBoth}
 
@@ -122,3 +125,41 @@ receives plan s side k z r is fits low some =
     let here : int_lt (neg_ℤ (pos (2 ^ 63))) s.node.counter ≡ true = subst (λ x. int_lt (neg_ℤ (pos (2 ^ 63))) x ≡ true) (to_z-of_z w64 z fits ∙ is) low in
     let both : (can_accept plan side k s && int_lt (neg_ℤ (pos (2 ^ 63))) s.node.counter) ≡ can_accept plan side k s = ap (λ b. can_accept plan side k s && b) here ∙ and_true (can_accept plan side k s) in
     some ∙ sym (if_some (can_accept plan side k s && int_lt (neg_ℤ (pos (2 ^ 63))) s.node.counter) (router_received plan side k s) ∙ both)
+
+-- ---- of the host
+
+-- it puts a message on its link
+pub put_done : (s : HostState) (x y : LinkView) (k : Packet) (ok : Bool) → Some k ≡ host_offers s → can_put_at s.node ≡ true → ok ≡ true → Does ok (put_in k x) x y →
+    DoesBoth true (meets event.HostPut (HostV s) (LinkV x)) (HostV s) (LinkV x) (HostV (host_departed s)) (LinkV y)
+put_done s x y k ok offer counts put does =
+    did_both (meets event.HostPut (HostV s) (LinkV x)) (HostV s) (LinkV x) (HostV (host_departed s)) (LinkV y)
+    (host_puts s x y k (sym offer) counts (does_some ok (put_in k x) x y put does))
+
+pub puts_if : (s : HostState) (x : LinkView) (sends : Bool) (len most : ℕ) → sends ≡ (is_some (host_offers s) && can_put_at s.node) → sends ≡ true → len ≡ length x.packets → most ≡ x.capacity →
+    ltb len most ≡ is_some (meets event.HostPut (HostV s) (LinkV x))
+puts_if s x sends len most is can long room =
+    ap (λ n. ltb n most) long ∙ ap (λ n. ltb (length x.packets) n) room
+    ∙ sym (host_can_put s x ∙ ap (λ b. b && ltb (length x.packets) x.capacity) (sym is ∙ can))
+
+pub puts_not : (s : HostState) (x : LinkView) (sends : Bool) → sends ≡ (is_some (host_offers s) && can_put_at s.node) → sends ≡ false → false ≡ is_some (meets event.HostPut (HostV s) (LinkV x))
+puts_not s x sends is cannot = sym (host_can_put s x ∙ ap (λ b. b && ltb (length x.packets) x.capacity) (sym is ∙ cannot))
+
+-- it takes a packet from its link
+pub taken_done : (s : HostState) (x y : LinkView) (k : Packet) (got : Option Packet) → Some k ≡ got → got ≡ front_of x → can_take_at s.node ≡ true → Does (is_some got) (take_from x) x y →
+    DoesBoth true (meets event.HostTake (HostV s) (LinkV x)) (HostV s) (LinkV x) (HostV (took k s)) (LinkV y)
+taken_done s x y k got one is counts does =
+    did_both (meets event.HostTake (HostV s) (LinkV x)) (HostV s) (LinkV x) (HostV (took k s)) (LinkV y)
+    (host_takes s x y k (sym (one ∙ is)) counts (does_some (is_some got) (take_from x) x y (ap (λ (o : Option Packet). is_some o) (sym one)) does))
+
+pub takes_if : (s : HostState) (x : LinkView) (k : Packet) → Some k ≡ front_of x → can_take_at s.node ≡ is_some (meets event.HostTake (HostV s) (LinkV x))
+takes_if s x k front = sym (host_can_take s x ∙ ap (λ (o : Option Packet). is_some o && can_take_at s.node) (sym front))
+
+pub takes_none : (s : HostState) (x : LinkView) → None ≡ front_of x → false ≡ is_some (meets event.HostTake (HostV s) (LinkV x))
+takes_none s x front = sym (host_can_take s x ∙ ap (λ (o : Option Packet). is_some o && can_take_at s.node) (sym front))
+
+-- what it can take can be counted
+pub takes_counts : (s : HostState) (x : LinkView) → is_some (meets event.HostTake (HostV s) (LinkV x)) ≡ true → can_take_at s.node ≡ true
+takes_counts s x some = (and_parts (is_some (front_of x)) (can_take_at s.node) (sym (host_can_take s x) ∙ some)).1
+
+pub counts_at : (s : HostState) (z : ℤ) → z ≡ s.node.counter → FitsSigned w64 z → int_lt (neg_ℤ (pos (2 ^ 63))) (to_z w64 (of_z w64 z)) ≡ can_take_at s.node
+counts_at s z is fits = ap (int_lt (neg_ℤ (pos (2 ^ 63)))) (to_z-of_z w64 z fits ∙ is)

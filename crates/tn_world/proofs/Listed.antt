@@ -13,8 +13,8 @@ use Rattle.tn_base.specs.Parts.{kind_of, part_count, tile_part}
 use Rattle.tn_base.specs.Shape.{thread_count}
 use Rattle.tn_rows.proofs.Meeting.{none_is}
 use Rattle.tn_rows.specs.Events.{after, happened, happened_at, with_part, Rests}
-use Rattle.tn_rows.specs.Listed.{arrivals, arrivals_from, deliveries, departures, departures_from, event_if, listed, nth_thread, part_id, routings, turns}
-use Rattle.tn_rows.specs.PartView.{PartView, TileV, RouterV, LinkV, AbsentV}
+use Rattle.tn_rows.specs.Listed.{arrivals, arrivals_from, deliveries, departures, departures_from, event_if, listed, nth_thread, of_host, part_id, routings, turns}
+use Rattle.tn_rows.specs.PartView.{PartView, TileV, RouterV, LinkV, HostV, AbsentV}
 use Rattle.tn_rows.specs.Places.{at_part, is_router, leads_from, leads_to, one_if, part_of, two_if}
 use Rattle.tn_rows.specs.WorldView.{WorldView}
 use Rattle.tn_stamp.specs.declared.entry.Crossing.TheVariants as crossing
@@ -40,6 +40,7 @@ part_one t m None e = refl
 part_one t m (Some (TileV v)) e = ap (λ o. option_map TileV (now_by v o)) (row_one v.plan t.0 m v.now (none_mapped v (turn_row v.plan t.0 1 v.now) e))
 part_one t m (Some (RouterV v)) e = refl
 part_one t m (Some (LinkV v)) e = refl
+part_one t m (Some (HostV s)) e = refl
 part_one t m (Some AbsentV) e = refl
 
 at_one : (w : WorldView) (t : ThreadId) (m : ℕ) (o : Option ℕ) → happened_at (event.Turn t 1) w (at_part o) ≡ None → happened_at (event.Turn t m) w (at_part o) ≡ None
@@ -254,9 +255,20 @@ no_routing w n past none =
     none_flat w (λ p. event_if (is_router (kind_of w.shape p)) (event.Route (part_id p))) 0 (part_count w.shape)
     (λ k low high. none_if w (is_router (kind_of w.shape k)) (event.Route (part_id k)) (none k (omega arith)))
 
--- ---- all five lists
+-- ---- the host's events
 
--- turns and deliveries, these and departures, and these and arrivals
+pub first_put : (w : WorldView) → is_some (happened event.HostPut w) ≡ true → First w of_host event.HostPut
+first_put w some = inl (refl, some_is (happened event.HostPut w) some)
+
+pub first_take : (w : WorldView) → is_some (happened event.HostPut w) ≡ false → is_some (happened event.HostTake w) ≡ true → First w of_host event.HostTake
+first_take w not some = inr (none_is (happened event.HostPut w) not, inl (refl, some_is (happened event.HostTake w) some))
+
+pub none_of_host : (w : WorldView) → is_some (happened event.HostPut w) ≡ false → is_some (happened event.HostTake w) ≡ false → NoneOf w of_host
+none_of_host w not none = (none_is (happened event.HostPut w) not, (none_is (happened event.HostTake w) none, tt))
+
+-- ---- all six lists
+
+-- turns and deliveries, these and departures, these and arrivals, and these and routings
 abbrev two_lists : ShapeNumbers → List Event
 two_lists n = turns n ++ deliveries n
 
@@ -266,38 +278,55 @@ three_lists n = two_lists n ++ departures n
 abbrev four_lists : ShapeNumbers → List Event
 four_lists n = three_lists n ++ arrivals n
 
+abbrev five_lists : ShapeNumbers → List Event
+five_lists n = four_lists n ++ routings n
+
 pub listed_turn : (w : WorldView) (e : Event) → First w (turns w.shape) e → First w (listed w.shape) e
 listed_turn w e f =
-    first_left w (four_lists w.shape) (routings w.shape) e
+    first_left w (five_lists w.shape) of_host e
+    (first_left w (four_lists w.shape) (routings w.shape) e
     (first_left w (three_lists w.shape) (arrivals w.shape) e
     (first_left w (two_lists w.shape) (departures w.shape) e
-    (first_left w (turns w.shape) (deliveries w.shape) e f)))
+    (first_left w (turns w.shape) (deliveries w.shape) e f))))
 
 pub listed_delivery : (w : WorldView) (e : Event) → NoneOf w (turns w.shape) → First w (deliveries w.shape) e → First w (listed w.shape) e
 listed_delivery w e turned f =
-    first_left w (four_lists w.shape) (routings w.shape) e
+    first_left w (five_lists w.shape) of_host e
+    (first_left w (four_lists w.shape) (routings w.shape) e
     (first_left w (three_lists w.shape) (arrivals w.shape) e
     (first_left w (two_lists w.shape) (departures w.shape) e
-    (first_right w (turns w.shape) (deliveries w.shape) e turned f)))
+    (first_right w (turns w.shape) (deliveries w.shape) e turned f))))
 
 pub listed_departure : (w : WorldView) (e : Event) → NoneOf w (turns w.shape) → NoneOf w (deliveries w.shape) → First w (departures w.shape) e → First w (listed w.shape) e
 listed_departure w e turned delivered f =
-    first_left w (four_lists w.shape) (routings w.shape) e
+    first_left w (five_lists w.shape) of_host e
+    (first_left w (four_lists w.shape) (routings w.shape) e
     (first_left w (three_lists w.shape) (arrivals w.shape) e
     (first_right w (two_lists w.shape) (departures w.shape) e
-    (none_append w (turns w.shape) (deliveries w.shape) turned delivered) f))
+    (none_append w (turns w.shape) (deliveries w.shape) turned delivered) f)))
 
 pub listed_arrival : (w : WorldView) (e : Event) → NoneOf w (turns w.shape) → NoneOf w (deliveries w.shape) → NoneOf w (departures w.shape) → First w (arrivals w.shape) e → First w (listed w.shape) e
 listed_arrival w e turned delivered departed f =
-    first_left w (four_lists w.shape) (routings w.shape) e
+    first_left w (five_lists w.shape) of_host e
+    (first_left w (four_lists w.shape) (routings w.shape) e
     (first_right w (three_lists w.shape) (arrivals w.shape) e
-    (none_append w (two_lists w.shape) (departures w.shape) (none_append w (turns w.shape) (deliveries w.shape) turned delivered) departed) f)
+    (none_append w (two_lists w.shape) (departures w.shape) (none_append w (turns w.shape) (deliveries w.shape) turned delivered) departed) f))
+
+-- none of the first four lists is enabled
+none_of_four : (w : WorldView) → NoneOf w (turns w.shape) → NoneOf w (deliveries w.shape) → NoneOf w (departures w.shape) → NoneOf w (arrivals w.shape) → NoneOf w (four_lists w.shape)
+none_of_four w turned delivered departed arrived =
+    none_append w (three_lists w.shape) (arrivals w.shape)
+    (none_append w (two_lists w.shape) (departures w.shape) (none_append w (turns w.shape) (deliveries w.shape) turned delivered) departed) arrived
 
 pub listed_routing : (w : WorldView) (e : Event) → NoneOf w (turns w.shape) → NoneOf w (deliveries w.shape) → NoneOf w (departures w.shape) → NoneOf w (arrivals w.shape) → First w (routings w.shape) e → First w (listed w.shape) e
 listed_routing w e turned delivered departed arrived f =
-    first_right w (four_lists w.shape) (routings w.shape) e
-    (none_append w (three_lists w.shape) (arrivals w.shape)
-    (none_append w (two_lists w.shape) (departures w.shape) (none_append w (turns w.shape) (deliveries w.shape) turned delivered) departed) arrived) f
+    first_left w (five_lists w.shape) of_host e
+    (first_right w (four_lists w.shape) (routings w.shape) e (none_of_four w turned delivered departed arrived) f)
+
+listed_of_host : (w : WorldView) (e : Event) → NoneOf w (turns w.shape) → NoneOf w (deliveries w.shape) → NoneOf w (departures w.shape) → NoneOf w (arrivals w.shape) → NoneOf w (routings w.shape) → First w of_host e → First w (listed w.shape) e
+listed_of_host w e turned delivered departed arrived routed f =
+    first_right w (five_lists w.shape) of_host e
+    (none_append w (four_lists w.shape) (routings w.shape) (none_of_four w turned delivered departed arrived) routed) f
 
 -- each thread of the machine stands in the list
 abbrev pub Each : ShapeNumbers → Type 0
@@ -371,23 +400,23 @@ routing_rests w p count none = elim (within (part_count w.shape) p.0 p.0) [
 ]
 
 -- where none of them is enabled, no event is
-pub rests : (w : WorldView) → length w.parts ≡ part_count w.shape → Each w.shape → NoneOf w (turns w.shape) → NoneOf w (deliveries w.shape) → NoneOf w (departures w.shape) → NoneOf w (arrivals w.shape) → NoneOf w (routings w.shape) → Rests w
-rests w count each turns deliveries departures arrivals routings (event.Turn t n) = turn_rests w t n (has_thread w.shape t.0) refl each turns
-rests w count each turns deliveries departures arrivals routings (event.Deliver t) = delivery_rests w t (has_thread w.shape t.0) refl each deliveries
-rests w count each turns deliveries departures arrivals routings (event.Depart p l) = departure_rests w p l count departures
-rests w count each turns deliveries departures arrivals routings (event.Arrive l p) = arrival_rests w l p count arrivals
-rests w count each turns deliveries departures arrivals routings (event.Route p) = routing_rests w p count routings
-rests w count each turns deliveries departures arrivals routings event.HostPut = never event.HostPut w refl
-rests w count each turns deliveries departures arrivals routings event.HostTake = never event.HostTake w refl
-rests w count each turns deliveries departures arrivals routings (event.Report p) = never (event.Report p) w refl
-rests w count each turns deliveries departures arrivals routings event.Begin = never event.Begin w refl
-rests w count each turns deliveries departures arrivals routings (event.Confirm p) = never (event.Confirm p) w refl
-rests w count each turns deliveries departures arrivals routings event.Announce = never event.Announce w refl
-rests w count each turns deliveries departures arrivals routings (event.Release p) = never (event.Release p) w refl
-rests w count each turns deliveries departures arrivals routings (event.Go p) = never (event.Go p) w refl
+pub rests : (w : WorldView) → length w.parts ≡ part_count w.shape → Each w.shape → NoneOf w (turns w.shape) → NoneOf w (deliveries w.shape) → NoneOf w (departures w.shape) → NoneOf w (arrivals w.shape) → NoneOf w (routings w.shape) → NoneOf w of_host → Rests w
+rests w count each turns deliveries departures arrivals routings hosts (event.Turn t n) = turn_rests w t n (has_thread w.shape t.0) refl each turns
+rests w count each turns deliveries departures arrivals routings hosts (event.Deliver t) = delivery_rests w t (has_thread w.shape t.0) refl each deliveries
+rests w count each turns deliveries departures arrivals routings hosts (event.Depart p l) = departure_rests w p l count departures
+rests w count each turns deliveries departures arrivals routings hosts (event.Arrive l p) = arrival_rests w l p count arrivals
+rests w count each turns deliveries departures arrivals routings hosts (event.Route p) = routing_rests w p count routings
+rests w count each turns deliveries departures arrivals routings hosts event.HostPut = hosts.0
+rests w count each turns deliveries departures arrivals routings hosts event.HostTake = hosts.1.0
+rests w count each turns deliveries departures arrivals routings hosts (event.Report p) = never (event.Report p) w refl
+rests w count each turns deliveries departures arrivals routings hosts event.Begin = never event.Begin w refl
+rests w count each turns deliveries departures arrivals routings hosts (event.Confirm p) = never (event.Confirm p) w refl
+rests w count each turns deliveries departures arrivals routings hosts event.Announce = never event.Announce w refl
+rests w count each turns deliveries departures arrivals routings hosts (event.Release p) = never (event.Release p) w refl
+rests w count each turns deliveries departures arrivals routings hosts (event.Go p) = never (event.Go p) w refl
 
--- what is left after the first four lists
-pub last_list : (w : WorldView) (r : Option Event) → length w.parts ≡ part_count w.shape → Each w.shape → NoneOf w (turns w.shape) → NoneOf w (deliveries w.shape) → NoneOf w (departures w.shape) → NoneOf w (arrivals w.shape) →
-    MatchOption r (NoneOf w (routings w.shape)) (First w (routings w.shape)) → MatchOption r (Rests w) (First w (listed w.shape))
-last_list w None count each turned delivered departed arrived h = rests w count each turned delivered departed arrived h
-last_list w (Some e) count each turned delivered departed arrived h = listed_routing w e turned delivered departed arrived h
+-- what is left after the first five lists
+pub last_list : (w : WorldView) (r : Option Event) → length w.parts ≡ part_count w.shape → Each w.shape → NoneOf w (turns w.shape) → NoneOf w (deliveries w.shape) → NoneOf w (departures w.shape) → NoneOf w (arrivals w.shape) → NoneOf w (routings w.shape) →
+    MatchOption r (NoneOf w of_host) (First w of_host) → MatchOption r (Rests w) (First w (listed w.shape))
+last_list w None count each turned delivered departed arrived routed h = rests w count each turned delivered departed arrived routed h
+last_list w (Some e) count each turned delivered departed arrived routed h = listed_of_host w e turned delivered departed arrived routed h

@@ -1,17 +1,17 @@
 -- Events that are never enabled: those whose parts are not there, and those for which parts have no row yet.
-use Rattle.std.proofs.Common.{◌≡◌, ◌∙◌, ℕ, ◌-◌, ◌≤◌, ltb, Bool, true, false, cond, None, Some, refl, ap, sym, is_some, option_and_then, option_map, slice_get, length}
+use Rattle.std.proofs.Common.{◌≡◌, ◌∙◌, ℕ, ◌≤◌, ltb, Bool, true, false, cond, None, Some, refl, ap, sym, is_some, option_and_then, option_map, slice_get, length}
 use Rattle.std.specs.declared.option.Option.{Option}
 use Rattle.std.proofs.lemmas.Option.{slice_get_past}
 use Rattle.tn_base.specs.declared.event.Event.{Event}
 use Rattle.tn_base.specs.declared.event.Event.TheVariants as event
 use Rattle.tn_base.specs.declared.ids.PartId.{PartId}
 use Rattle.tn_base.specs.declared.message.Packet.{Packet}
-use Rattle.tn_base.specs.Parts.{kind_of, part_count, visited}
+use Rattle.tn_base.specs.Parts.{kind_of, visited}
 use Rattle.tn_node.proofs.PortLaws.{empty_at, not_false}
 use Rattle.tn_node.specs.PortRows.{all_empty, at}
 use Rattle.tn_rows.proofs.Meeting.{no_crossing, none_is}
 use Rattle.tn_rows.specs.Events.{after, carried, crossing_of, given_to, happened, happened_at, meets_at, with_both, with_part}
-use Rattle.tn_rows.specs.PartView.{PartView, TileV, RouterV, LinkV, AbsentV}
+use Rattle.tn_rows.specs.PartView.{PartView, TileV, RouterV, LinkV, HostV, AbsentV}
 use Rattle.tn_rows.specs.Places.{detector_part, leads_from, leads_to, link_way, one_if, two_if}
 use Rattle.tn_rows.specs.WorldView.{WorldView}
 use Rattle.tn_stamp.specs.declared.entry.Crossing.TheVariants as crossing
@@ -40,12 +40,14 @@ begin_row : (x : PartView) → after event.Begin crossing.None x ≡ None
 begin_row (TileV v) = refl
 begin_row (RouterV v) = refl
 begin_row (LinkV v) = refl
+begin_row (HostV s) = refl
 begin_row AbsentV = refl
 
 announce_row : (x : PartView) → after event.Announce crossing.None x ≡ None
 announce_row (TileV v) = refl
 announce_row (RouterV v) = refl
 announce_row (LinkV v) = refl
+announce_row (HostV s) = refl
 announce_row AbsentV = refl
 
 -- whether parts have rows for an event
@@ -55,6 +57,8 @@ has_rows (event.Deliver t) = true
 has_rows (event.Depart p l) = true
 has_rows (event.Arrive l p) = true
 has_rows (event.Route p) = true
+has_rows event.HostPut = true
+has_rows event.HostTake = true
 has_rows _ = false
 
 pub never : (e : Event) (w : WorldView) → has_rows e ≡ false → happened e w ≡ None
@@ -63,8 +67,8 @@ never (event.Deliver t) w h = cc h
 never (event.Depart p l) w h = cc h
 never (event.Arrive l p) w h = cc h
 never (event.Route p) w h = cc h
-never event.HostPut w h = no_two event.HostPut w true 0 (part_count w.shape - 2) (λ x y a b. refl)
-never event.HostTake w h = no_two event.HostTake w true 0 (part_count w.shape - 3) (λ x y a b. refl)
+never event.HostPut w h = cc h
+never event.HostTake w h = cc h
 never (event.Report p) w h = no_two (event.Report p) w (ltb p.0 (visited w.shape)) p.0 (detector_part w.shape) (λ x y a b. refl)
 never event.Begin w h = no_one event.Begin w true (detector_part w.shape) begin_row
 never (event.Confirm p) w h = no_two (event.Confirm p) w (ltb p.0 (visited w.shape)) p.0 (detector_part w.shape) (λ x y a b. refl)
@@ -111,6 +115,7 @@ gives_none : (l : ℕ) (x : PartView) → offers x ≡ false → given_to l x �
 gives_none l (TileV v) e = unless_held v.now.node.held (at (link_way v.plan.shape l) v.now.node.out) (empty_at (link_way v.plan.shape l) v.now.node.out (not_false (all_empty v.now.node.out) e))
 gives_none l (RouterV v) e = unless_held v.now.node.held (at (link_way v.plan.shape l) v.now.node.out) (empty_at (link_way v.plan.shape l) v.now.node.out (not_false (all_empty v.now.node.out) e))
 gives_none l (LinkV v) e = refl
+gives_none l (HostV s) e = refl
 gives_none l AbsentV e = refl
 
 same_part : (o : Option PartView) (x y : PartView) → o ≡ Some x → o ≡ Some y → x ≡ y

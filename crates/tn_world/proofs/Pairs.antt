@@ -1,6 +1,10 @@
 -- Events on two parts of a machine.
-use Rattle.std.proofs.Common.{◌≡◌, ◌∙◌, ℕ, zero, suc, ◌<◌, ◌≢◌, ◌++◌, Bool, true, List, [], ◌∷◌, None, Some, refl, ap, subst, sym, get_or, set, length, take, drop, is_some, option_map, append-nil, arith, slice_get}
+use Rattle.std.proofs.Common.{◌≡◌, ◌∙◌, ℕ, zero, suc, ◌<◌, ◌≢◌, ◌++◌, Bool, true, false, List, [], ◌∷◌, None, Some, refl, ap, subst, sym, get_or, set, length, take, drop, is_some, option_map, append-nil, arith, slice_get}
 use Rattle.std.specs.declared.option.Option.{Option}
+use Rattle.std.specs.declared.result.Result.{Result}
+use Rattle.std.specs.declared.result.Result.TheVariants.{Ok, Err}
+use Rattle.std.specs.declared.alloc.AllocError.{AllocError}
+use Rattle.std.specs.Prelude.{MatchResult}
 use Rattle.std.proofs.lemmas.List.{drop_all, get_or_default, length-set, set-append_left, set-get_or, take_all}
 use Rattle.std.proofs.lemmas.Option.{get_or_from_slice_get}
 use Rattle.tn_base.specs.declared.event.Event.{Event}
@@ -10,7 +14,9 @@ use Rattle.tn_rows.specs.Events.{IsWorld, Met, happened_at, meets, meets_at, wit
 use Rattle.tn_rows.specs.PartView.{PartView, AbsentV}
 use Rattle.tn_rows.specs.Places.{two_if}
 use Rattle.tn_rows.specs.WorldView.{WorldView}
-use Rattle.tn_world.specs.Joint.{DoesBoth, set_both}
+use Rattle.tn_tile.specs.declared.deliver.Did.{Did}
+use Rattle.tn_tile.specs.Turns.{moved}
+use Rattle.tn_world.specs.Joint.{DoesBoth, DoesBothOr, set_both}
 use Rattle.tn_world.proofs.Keeping.{apart, both_keep}
 
 -- ---- two parts of one list
@@ -64,6 +70,16 @@ module _ (front back xs : List PartView) (i n : ℕ) (v w : PartView) (joined : 
       (subst (λ o. Does h (option_map (set_both xs i n) (meets_at e (Some (get_or front i v)) o)) xs (set front i a ++ set back 0 b)) (sym high_is)
       (placed_by h a b (meets e (get_or front i v) (get_or back 0 w)) d))
 
+  -- if the call changed nothing, the list is as it was
+  both_kept : (a b : PartView) → a ≡ get_or front i v → b ≡ get_or back 0 w → set front i a ++ set back 0 b ≡ xs
+  both_kept a b low high = (placed_by false a b None (refl, low, high)).1
+
+  -- the same of a call that may want memory
+  pub both_or : (e : Event) (r : Result Did AllocError) (a b : PartView) → DoesBothOr r (meets e (get_or front i v) (get_or back 0 w)) (get_or front i v) (get_or back 0 w) a b →
+      MatchResult r (λ did. Does (moved did) (option_map (set_both xs i n) (meets_at e (slice_get xs i) (slice_get xs n))) xs (set front i a ++ set back 0 b)) (λ _. set front i a ++ set back 0 b ≡ xs)
+  both_or e (Ok did) a b d = both_placed e (moved did) a b d
+  both_or e (Err x) a b d = both_kept a b d.0 d.1
+
   pub parts_long : (a b : PartView) → length (set front i a ++ set back 0 b) ≡ length xs
   parts_long a b = ap (λ ys. length ys) (both_set a b) ∙ length-set (set xs i a) n b ∙ length-set xs i a
 
@@ -102,6 +118,18 @@ kept_at w e p q new h (Some low) (Some high) apart a b d i = kept_by w e p q new
 pub both_keeps : (w : WorldView) (e : Event) (p q : ℕ) (new : List PartView) (h : Bool) → p < q →
     Does h (option_map (set_both w.parts p q) (meets_at e (slice_get w.parts p) (slice_get w.parts q))) w.parts new → IsWorld w → IsWorld (record w { parts = new })
 both_keeps w e p q new h less d i = kept_at w e p q new h (slice_get w.parts p) (slice_get w.parts q) (λ same. omega (arith, less, same)) refl refl d i
+
+-- the same of a call that may want memory
+pub both_world_or : (w : WorldView) (e : Event) (p q : ℕ) (new : List PartView) (r : Result Did AllocError) →
+    MatchResult r (λ did. Does (moved did) (option_map (set_both w.parts p q) (meets_at e (slice_get w.parts p) (slice_get w.parts q))) w.parts new) (λ _. new ≡ w.parts) →
+    MatchResult r (λ did. Does (moved did) (happened_at e w (two_if true p q)) w (record w { parts = new })) (λ _. record w { parts = new } ≡ w)
+both_world_or w e p q new (Ok did) d = both_world w e true p q new (moved did) refl d
+both_world_or w e p q new (Err x) d = ap (λ ps. record w { parts = ps }) d
+
+pub both_keeps_or : (w : WorldView) (e : Event) (p q : ℕ) (new : List PartView) (r : Result Did AllocError) → p < q →
+    MatchResult r (λ did. Does (moved did) (option_map (set_both w.parts p q) (meets_at e (slice_get w.parts p) (slice_get w.parts q))) w.parts new) (λ _. new ≡ w.parts) → IsWorld w → IsWorld (record w { parts = new })
+both_keeps_or w e p q new (Ok did) less d i = both_keeps w e p q new (moved did) less d i
+both_keeps_or w e p q new (Err x) less d i = subst (λ ps. IsWorld (record w { parts = ps })) (sym d) i
 
 -- whether an event on two parts can happen
 pub can_both : (w : WorldView) (e : Event) (there : Bool) (p q : ℕ) (low high : PartView) → there ≡ true → slice_get w.parts p ≡ Some low → slice_get w.parts q ≡ Some high → is_some (happened_at e w (two_if there p q)) ≡ is_some (meets e low high)

@@ -1,5 +1,5 @@
 -- Links of a machine: where they stand, which way they lead, and from which side.
-use Rattle.std.proofs.Common.{◌≡◌, ◌∙◌, ◌==◌, ℕ, ◌<◌, ◌≤◌, Bool, true, false, cond, None, Some, refl, ap, subst, sym, get_or, length, arith}
+use Rattle.std.proofs.Common.{◌≡◌, ◌∙◌, ◌==◌, ◌-◌, ℕ, ◌<◌, ◌≤◌, Bool, true, false, cond, None, Some, refl, ap, subst, sym, get_or, length, arith}
 use Rattle.std.specs.declared.option.Option.{Option}
 use Rattle.std.proofs.lemmas.Bool.{eqb-true}
 use Rattle.tn_base.specs.declared.ids.PartId.{PartId}
@@ -8,11 +8,12 @@ use Rattle.tn_base.specs.declared.part.Kind.TheVariants as kind
 use Rattle.tn_base.specs.declared.port.Port.{Port}
 use Rattle.tn_base.specs.declared.shape.ShapeNumbers.{ShapeNumbers}
 use Rattle.tn_base.specs.Parts.{JoinsVisited, kind_of, part_count, visited}
+use Rattle.tn_rows.proofs.HostLinks.{host_links_there, link_from_host, link_to_host}
 use Rattle.tn_rows.specs.Events.{FitsKind, IsWorld}
-use Rattle.tn_rows.specs.PartView.{PartView, TileV, RouterV, LinkV, AbsentV}
+use Rattle.tn_rows.specs.PartView.{PartView, TileV, RouterV, LinkV, HostV, AbsentV}
 use Rattle.tn_rows.specs.Places.{leads_from, leads_to, link_side, link_way}
 use Rattle.tn_rows.specs.WorldView.{WorldView}
-use Rattle.tn_world.specs.Joint.{IsLink, IsSide, IsWay, NoLink}
+use Rattle.tn_world.specs.Joint.{IsHost, IsLink, IsSide, IsWay, NoLink}
 
 -- a part is a link between these
 pub record Joins (k : Kind) (from onto : ℕ) : Type 0 where
@@ -47,6 +48,7 @@ fits_link : (n : ShapeNumbers) (k : Kind) (from onto : PartId) (part : PartView)
 fits_link n k from onto (TileV v) e f = subst (λ k. FitsKind n k (TileV v)) e f
 fits_link n k from onto (RouterV v) e f = subst (λ k. FitsKind n k (RouterV v)) e f
 fits_link n k from onto (LinkV v) e f = tt
+fits_link n k from onto (HostV s) e f = subst (λ k. FitsKind n k (HostV s)) e f
 fits_link n k from onto AbsentV e f = subst (λ k. FitsKind n k AbsentV) e f
 
 -- a part that is no link is none
@@ -58,6 +60,7 @@ fits_other n (kind.Tile tile) (LinkV v) not f = f
 fits_other n (kind.Router board) (LinkV v) not f = f
 fits_other n (kind.Link from onto) (LinkV v) not f = absurd (not from onto refl)
 fits_other n kind.Detector (LinkV v) not f = f
+fits_other n k (HostV s) not f = tt
 fits_other n k AbsentV not f = tt
 
 fits_way : (n : ShapeNumbers) (k : Kind) (part : PartView) (l : ℕ) (way : Port) → way ≡ link_way n l → FitsKind n k part → IsWay part l way
@@ -72,6 +75,7 @@ fits_way n (kind.Router board) (RouterV v) l way e f = e ∙ ap (λ m. link_way 
 fits_way n (kind.Link from onto) (RouterV v) l way e f = absurd f
 fits_way n kind.Detector (RouterV v) l way e f = absurd f
 fits_way n k (LinkV v) l way e f = tt
+fits_way n k (HostV s) l way e f = tt
 fits_way n k AbsentV l way e f = tt
 
 fits_side : (n : ShapeNumbers) (k : Kind) (part : PartView) (l : ℕ) (side : Port) → side ≡ link_side n l → FitsKind n k part → IsSide part l side
@@ -82,6 +86,7 @@ fits_side n (kind.Router board) (RouterV v) l side e f = e ∙ ap (λ m. link_si
 fits_side n (kind.Link from onto) (RouterV v) l side e f = absurd f
 fits_side n kind.Detector (RouterV v) l side e f = absurd f
 fits_side n k (LinkV v) l side e f = tt
+fits_side n k (HostV s) l side e f = tt
 fits_side n k AbsentV l side e f = tt
 
 -- a part and a link behind it
@@ -153,3 +158,38 @@ leads_onto w n p l side same e behind i =
     let given = way_given (leads_to p (kind_of w.shape l)) (Some side) (link_side w.shape l) side here refl in
     let pair : Pair w p l = onto_pair w p l given.0 behind i in
     record { there = given.0; pair = pair; side_is = pair.side side given.1 }
+
+-- ---- the host and its links
+
+fits_host : (n : ShapeNumbers) (part : PartView) → FitsKind n kind.Host part → IsHost part
+fits_host n (TileV v) f = f
+fits_host n (RouterV v) f = f
+fits_host n (LinkV v) f = f
+fits_host n (HostV s) f = f
+fits_host n AbsentV f = f
+
+-- the host, and a link of its that stands so far before the end of the parts
+pub record HostPair (w : WorldView) (l : ℕ) : Type 0 where
+  pub less : 0 < l
+  pub low : 0 < length w.parts
+  pub high : l < length w.parts
+  pub host : IsHost (get_or w.parts 0 AbsentV)
+  pub link : IsLink (get_or w.parts l AbsentV)
+
+host_pair : (w : WorldView) (l : ℕ) (from onto : PartId) → 0 < l → l < part_count w.shape → kind_of w.shape l ≡ kind.Link from onto → IsWorld w → HostPair w l
+host_pair w l from onto some below is i =
+    let count : length w.parts ≡ part_count w.shape = i.count in
+    let low : 0 < part_count w.shape = omega (arith, some, below) in
+    record {
+      less = some;
+      low = omega (arith, low, count);
+      high = omega (arith, below, count);
+      host = fits_host w.shape (get_or w.parts 0 AbsentV) (i.each 0 low);
+      link = fits_link w.shape (kind_of w.shape l) from onto (get_or w.parts l AbsentV) is (i.each l below);
+    }
+
+pub from_host_pair : (w : WorldView) → IsWorld w → HostPair w (part_count w.shape - 2)
+from_host_pair w i = let many = host_links_there w.shape in host_pair w (part_count w.shape - 2) _ _ (omega (arith, many)) (omega (arith, many)) (link_from_host w.shape) i
+
+pub to_host_pair : (w : WorldView) → IsWorld w → HostPair w (part_count w.shape - 3)
+to_host_pair w i = let many = host_links_there w.shape in host_pair w (part_count w.shape - 3) _ _ (omega (arith, many)) (omega (arith, many)) (link_to_host w.shape) i

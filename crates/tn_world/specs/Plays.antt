@@ -1,11 +1,13 @@
 -- What turns, and runs of them, leave.
-use Rattle.std.specs.Prelude.{ℕ, ◌≡◌, ◌≤◌, ◌<◌, ◌⊎◌, Bool, false, not, List, [], ◌∷◌, length, Some, None, IsSome, MatchOption}
+use Rattle.std.specs.Prelude.{ℕ, ◌≡◌, ◌≤◌, ◌<◌, ◌⊎◌, Bool, false, not, List, [], ◌∷◌, length, Option, Some, None, IsSome, MatchOption, MatchResult}
+use Rattle.std.specs.declared.alloc.AllocError.{AllocError}
+use Rattle.std.specs.declared.result.Result.{Result}
 use Rattle.tn_base.specs.declared.event.Event.{Event}
 use Rattle.tn_base.specs.declared.event.Event.TheVariants as event
 use Rattle.tn_base.specs.declared.ids.ThreadId.{ThreadId}
 use Rattle.tn_rows.specs.Ends.{final_after, last_of}
 use Rattle.tn_rows.specs.Events.{after, happened, Rests}
-use Rattle.tn_rows.specs.PartView.{PartView, TileV, RouterV, LinkV, AbsentV}
+use Rattle.tn_rows.specs.PartView.{PartView, TileV, RouterV, LinkV, HostV, AbsentV}
 use Rattle.tn_rows.specs.Runs.{IsLongest, LongTurns, Run}
 use Rattle.tn_rows.specs.WorldView.{WorldView}
 use Rattle.tn_node.specs.PortRows.{all_empty}
@@ -23,17 +25,22 @@ abbrev pub Turns : Turned → ThreadId → WorldView → WorldView → Type 0
 Turns (turned.Moved n) t old new = (happened (event.Turn t n) old ≡ Some new) × ((m : ℕ) → n < m → happened (event.Turn t m) old ≡ None)
 Turns turned.Nothing t old new = (new ≡ old) × ((m : ℕ) → happened (event.Turn t m) old ≡ None)
 
--- a packet waits on a part for a way out
+-- a packet waits on a part for a way out; on the host no packet waits
 abbrev pub offers : PartView → Bool
 offers (TileV v) = not (all_empty v.now.node.out)
 offers (RouterV v) = not (all_empty v.now.node.out)
 offers (LinkV v) = false
+offers (HostV s) = false
 offers AbsentV = false
 
 -- the machine makes an event; a turn is the longest one
 pub record Makes (e : Event) (old new : WorldView) : Type 0 where
   pub happens : happened e old ≡ Some new
   pub longest : IsLongest e old
+
+-- the machine makes an event, or none and says why, or memory runs out and nothing changes
+abbrev pub MakesOr : Result (Option Event) AllocError → Type 0 → WorldView → WorldView → Type 0
+MakesOr r Why old new = MatchResult r (λ o. MatchOption o ((new ≡ old) × Why) (λ e. Makes e old new)) (λ _. new ≡ old)
 
 -- a run of longest turns that ends with a final event, where no event is enabled, or at its limit
 pub record Played (limit : ℕ) (start : WorldView) (history : List Event) (end : WorldView) : Type 0 where

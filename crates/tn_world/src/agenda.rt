@@ -125,6 +125,12 @@ impl Agenda {
                     self.mark(ends.from.0 as usize);
                 }
             }
+            // The last link leads from the host to the router to which the host's other link belongs too.
+            Event::HostPut | Event::HostTake => {
+                if let Some(ends) = self.ends.last().copied() {
+                    self.mark(ends.to.0 as usize);
+                }
+            }
             _ => {}
         }
     }
@@ -172,10 +178,19 @@ impl Agenda {
             let l = self.link_in()?;
             self.next = self.next.wrapping_add(1);
             if world.parts.get(l.0 as usize)?.carries() {
-                return Some(Event::Arrive(l, PartId(self.at)));
+                return Some(self.arrival_by(l));
             }
         }
         None
+    }
+
+    /// The arrival from a link at the part in hand. The host, which is the first part, takes packets by an event of its own.
+    fn arrival_by(&self, l: PartId) -> Event {
+        if self.at == 0 {
+            Event::HostTake
+        } else {
+            Event::Arrive(l, PartId(self.at))
+        }
     }
 
     /// The next link that leads to the part in hand.
@@ -207,9 +222,15 @@ impl Agenda {
         Some(Event::Turn(found.thread, 1))
     }
 
-    /// The next link that leads away from the part in hand, if a packet waits there for a way out.
+    /// The next link that leads away from the part in hand, if a packet waits there for a way out; of the host its next message,
+    /// once a visit.
     fn departure<L: Link>(&mut self, world: &World<L>) -> Option<Event> {
-        if !world.parts.get(self.at as usize)?.offers() {
+        let part = world.parts.get(self.at as usize)?;
+        if part.puts() && self.next == 0 {
+            self.next = 1;
+            return Some(Event::HostPut);
+        }
+        if !part.offers() {
             return None;
         }
         let l = *self

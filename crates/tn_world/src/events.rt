@@ -7,7 +7,7 @@ ghost use Rattle.tn_base.specs.Does.{Does};
 ghost use Rattle.tn_base.specs.Parts.{part_count};
 ghost use Rattle.tn_rows.specs.Ends.{bad_key_on, ended_on, final_of, is_over, rest_outcome};
 ghost use Rattle.tn_rows.specs.Events.{Rests, happened};
-ghost use Rattle.tn_rows.specs.Listed.{arrivals, arrivals_from, deliveries, departures, departures_from, listed, routings, turns};
+ghost use Rattle.tn_rows.specs.Listed.{arrivals, arrivals_from, deliveries, departures, departures_from, listed, of_host, routings, turns};
 ghost use Rattle.tn_rows.specs.Places.{part_of};
 ghost use Rattle.tn_tile.specs.Turns.{moved};
 ghost use Rattle.tn_world.specs.Plays.{First, NoneOf, Turns};
@@ -22,7 +22,8 @@ use tn_link::link::Link;
 use tn_tile::deliver::Did;
 use tn_tile::step::Turned;
 
-/// One event, where it is enabled. A turn's steps are made on a copy of its tile, which takes memory.
+/// One event, where it is enabled. A turn's steps are made on a copy of its tile, which takes memory, and so does a letter that
+/// the host takes.
 pub fn step<L: Link>(world: &mut World<L>, e: &Event) -> Result<Did, AllocError>
     ensures { MatchResult result (λ did. Does (moved did) (happened e.now world.old) world.old world.new) (λ _. world.new ≡ world.old) }
 {
@@ -32,12 +33,14 @@ pub fn step<L: Link>(world: &mut World<L>, e: &Event) -> Result<Did, AllocError>
         Event::Depart(p, l) => Ok(world.depart(p, l)),
         Event::Arrive(l, p) => Ok(world.arrive(l, p)),
         Event::Route(p) => Ok(world.route(p)),
+        Event::HostPut => Ok(world.host_put()),
+        Event::HostTake => world.host_take(),
         _ => Ok(Did::Nothing),
     }
 }
 
 /// The first event in their order that is enabled: turns by thread, then deliveries by thread, departures by part
-/// and link, arrivals by link, routings by router.
+/// and link, arrivals by link, routings by router, and the host's events.
 pub fn enabled<L: Link>(world: &World<L>) -> Option<Event>
     ensures { MatchOption result (Rests world.now) (First world.now (listed world.now.shape)) }
 {
@@ -54,7 +57,10 @@ pub fn enabled<L: Link>(world: &World<L>) -> Option<Event>
     if let Some(e) = first_arrival(world) {
         return Some(e);
     }
-    first_routing(world)
+    if let Some(e) = first_routing(world) {
+        return Some(e);
+    }
+    first_of_host(world)
 }
 
 /// The first thread that can make a step.
@@ -119,6 +125,19 @@ fn first_routing<L: Link>(world: &World<L>) -> Option<Event>
     None
 }
 
+/// The first event of the host that can happen.
+fn first_of_host<L: Link>(world: &World<L>) -> Option<Event>
+    ensures { MatchOption result (NoneOf world.now of_host) (First world.now of_host) }
+{
+    if world.can_put() {
+        return Some(Event::HostPut);
+    }
+    if world.can_take() {
+        return Some(Event::HostTake);
+    }
+    None
+}
+
 /// How a run ends with this event, after which the machine is this one, where the event is final: a thread
 /// trapped, or has used its fuel, or a router found a bad key.
 pub fn final_of<L: Link>(world: &World<L>, e: &Event) -> Option<Outcome>
@@ -131,8 +150,8 @@ pub fn final_of<L: Link>(world: &World<L>, e: &Event) -> Option<Outcome>
     }
 }
 
-/// How a run ends in which nothing more can happen: done where all threads ended and no message stands
-/// anywhere, else jammed.
+/// How a run ends in which nothing more can happen: done where all threads ended, no message stands anywhere and the host's
+/// script is at its end, else jammed.
 pub fn rest_outcome<L: Link>(world: &World<L>) -> Outcome
     ensures { result ≡ rest_outcome world.now }
 {
@@ -143,7 +162,7 @@ pub fn rest_outcome<L: Link>(world: &World<L>) -> Outcome
     }
 }
 
-/// Whether all threads of all parts ended, and no message stands anywhere.
+/// Whether all threads of all parts ended, no message stands anywhere, and the host's script is at its end.
 fn are_over<L: Link>(parts: &[Part<L>]) -> bool
     ensures { result ≡ list_all is_over parts.now }
 {

@@ -5,6 +5,7 @@
 
 mod agenda;
 pub mod events;
+mod host;
 mod links;
 pub mod part;
 pub mod play;

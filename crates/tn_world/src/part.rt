@@ -6,7 +6,7 @@ ghost use Rattle.tn_base.specs.Address.{tile_threads};
 ghost use Rattle.tn_base.specs.Does.{Does};
 ghost use Rattle.tn_rows.specs.Ends.{bad_key_on, ended_on, is_over};
 ghost use Rattle.tn_rows.specs.Events.{after, carried};
-ghost use Rattle.tn_rows.specs.PartView.{AbsentV, LinkV, RouterV, TileV, link_of, router_of, tile_of};
+ghost use Rattle.tn_rows.specs.PartView.{AbsentV, HostV, LinkV, RouterV, TileV, host_of, link_of, router_of, tile_of};
 ghost use Rattle.tn_node.specs.PortRows.{all_empty};
 ghost use Rattle.tn_router.specs.RouterView.{now_by as router_now_by};
 ghost use Rattle.tn_router.specs.Rows.{route_row};
@@ -21,6 +21,7 @@ use std::marker::Model;
 use tn_base::event::Outcome;
 use tn_base::ids::{PartId, ThreadId};
 use tn_base::port::Port;
+use tn_host::host::Host;
 use tn_link::link::Link;
 use tn_router::moves::Routed;
 use tn_router::router::Router;
@@ -35,6 +36,7 @@ pub(crate) enum Contents<L> {
     Tile(Tile),
     Router(Router),
     Link(L),
+    Host(Host),
     Absent,
 }
 
@@ -45,7 +47,8 @@ pub(crate) struct Found {
     pub(crate) thread: ThreadId,
 }
 
-/// A part of a machine: a tile, a router, a link, or one of those that are not built yet. No event touches an absent part.
+/// A part of a machine: a tile, a router, a link, the host, or the detector, which is not built yet. No event touches an absent
+/// part.
 #[derive(Drop)]
 pub struct Part<L: Link> {
     pub(crate) contents: Contents<L>,
@@ -89,6 +92,15 @@ impl<L: Link> Part<L> {
         }
     }
 
+    /// The host.
+    pub fn host(host: Host) -> Part<L>
+        ensures { result ≡ HostV host.now }
+    {
+        Part {
+            contents: Contents::Host(host),
+        }
+    }
+
     /// A part that is not built yet.
     pub fn absent() -> Part<L>
         ensures { result ≡ AbsentV }
@@ -106,6 +118,7 @@ impl<L: Link> Part<L> {
             Contents::Tile(tile) => Ok(Part::tile(tile.copy()?)),
             Contents::Router(router) => Ok(Part::router(router.copy()?)),
             Contents::Link(link) => Ok(Part::link(link.copy()?)),
+            Contents::Host(host) => Ok(Part::host(host.copy()?)),
             Contents::Absent => Ok(Part::absent()),
         }
     }
@@ -118,6 +131,7 @@ impl<L: Link> Part<L> {
             (Contents::Tile(a), Contents::Tile(b)) => a.same(b),
             (Contents::Router(a), Contents::Router(b)) => a.same(b),
             (Contents::Link(a), Contents::Link(b)) => a.same(b),
+            (Contents::Host(a), Contents::Host(b)) => a.same(b),
             (Contents::Absent, Contents::Absent) => true,
             _ => false,
         }
@@ -129,7 +143,7 @@ impl<L: Link> Part<L> {
     {
         match &self.contents {
             Contents::Tile(tile) => Some(tile),
-            Contents::Router(_) | Contents::Link(_) | Contents::Absent => None,
+            Contents::Router(_) | Contents::Link(_) | Contents::Host(_) | Contents::Absent => None,
         }
     }
 
@@ -139,7 +153,7 @@ impl<L: Link> Part<L> {
     {
         match &self.contents {
             Contents::Router(router) => Some(router),
-            Contents::Tile(_) | Contents::Link(_) | Contents::Absent => None,
+            Contents::Tile(_) | Contents::Link(_) | Contents::Host(_) | Contents::Absent => None,
         }
     }
 
@@ -149,7 +163,17 @@ impl<L: Link> Part<L> {
     {
         match &self.contents {
             Contents::Link(link) => Some(link),
-            Contents::Tile(_) | Contents::Router(_) | Contents::Absent => None,
+            Contents::Tile(_) | Contents::Router(_) | Contents::Host(_) | Contents::Absent => None,
+        }
+    }
+
+    /// The host that the part is.
+    pub fn as_host(&self) -> Option<&Host>
+        ensures { option_map (λ h. h.now.now) result ≡ host_of self.now }
+    {
+        match &self.contents {
+            Contents::Host(host) => Some(host),
+            Contents::Tile(_) | Contents::Router(_) | Contents::Link(_) | Contents::Absent => None,
         }
     }
 
@@ -169,7 +193,9 @@ impl<L: Link> Part<L> {
     {
         match &mut self.contents {
             Contents::Tile(tile) => turn_tile(tile, t, n),
-            Contents::Router(_) | Contents::Link(_) | Contents::Absent => Ok(Did::Nothing),
+            Contents::Router(_) | Contents::Link(_) | Contents::Host(_) | Contents::Absent => Ok(
+                Did::Nothing,
+            ),
         }
     }
 
@@ -189,7 +215,7 @@ impl<L: Link> Part<L> {
     {
         match &self.contents {
             Contents::Tile(tile) => tile.is_here(t) && tile.can_turn(t),
-            Contents::Router(_) | Contents::Link(_) | Contents::Absent => false,
+            Contents::Router(_) | Contents::Link(_) | Contents::Host(_) | Contents::Absent => false,
         }
     }
 
@@ -199,7 +225,7 @@ impl<L: Link> Part<L> {
     {
         match &self.contents {
             Contents::Tile(tile) => tile.is_here(t) && tile.can_deliver(t),
-            Contents::Router(_) | Contents::Link(_) | Contents::Absent => false,
+            Contents::Router(_) | Contents::Link(_) | Contents::Host(_) | Contents::Absent => false,
         }
     }
 
@@ -230,7 +256,7 @@ impl<L: Link> Part<L> {
         match &self.contents {
             Contents::Tile(tile) => offers_any(tile),
             Contents::Router(router) => sends_any(router),
-            Contents::Link(_) | Contents::Absent => false,
+            Contents::Link(_) | Contents::Host(_) | Contents::Absent => false,
         }
     }
 
@@ -240,7 +266,15 @@ impl<L: Link> Part<L> {
     {
         match &self.contents {
             Contents::Link(link) => link.front().is_some(),
-            Contents::Tile(_) | Contents::Router(_) | Contents::Absent => false,
+            Contents::Tile(_) | Contents::Router(_) | Contents::Host(_) | Contents::Absent => false,
+        }
+    }
+
+    /// Whether the part is a host with a message to send.
+    pub(crate) fn puts(&self) -> bool {
+        match &self.contents {
+            Contents::Host(host) => !host.held() && !host.still(),
+            Contents::Tile(_) | Contents::Router(_) | Contents::Link(_) | Contents::Absent => false,
         }
     }
 
@@ -269,7 +303,7 @@ impl<L: Link> Part<L> {
     {
         match &self.contents {
             Contents::Tile(tile) => end_on(tile, t),
-            Contents::Router(_) | Contents::Link(_) | Contents::Absent => None,
+            Contents::Router(_) | Contents::Link(_) | Contents::Host(_) | Contents::Absent => None,
         }
     }
 
@@ -279,11 +313,11 @@ impl<L: Link> Part<L> {
     {
         match &self.contents {
             Contents::Router(router) => router.ended().map(Outcome::BadKey),
-            Contents::Tile(_) | Contents::Link(_) | Contents::Absent => None,
+            Contents::Tile(_) | Contents::Link(_) | Contents::Host(_) | Contents::Absent => None,
         }
     }
 
-    /// Whether all threads of the part ended, and no message stands there.
+    /// Whether all threads of the part ended, and no message stands there; of the host, whether its script is at its end.
     pub(crate) fn is_over(&self) -> bool
         ensures { result ≡ is_over self.now }
     {
@@ -291,6 +325,7 @@ impl<L: Link> Part<L> {
             Contents::Tile(tile) => tile.still() && !tile.live(),
             Contents::Router(router) => router.still(),
             Contents::Link(link) => link.len() == 0,
+            Contents::Host(host) => host.at_end(),
             Contents::Absent => true,
         }
     }

@@ -1,8 +1,9 @@
 //! Runs of a machine on one thread.
 
-ghost use Rattle.std.specs.Prelude.{◌≡◌, MatchOption, MatchResult, None};
+ghost use Rattle.std.specs.Prelude.{◌≡◌, ◌≢◌, MatchOption, MatchResult, None, ⊤};
+ghost use Rattle.tn_base.specs.declared.event.Event.TheVariants as event;
 ghost use Rattle.tn_rows.specs.Events.{Rests, happened};
-ghost use Rattle.tn_world.specs.Plays.{Makes, Played, Reached};
+ghost use Rattle.tn_world.specs.Plays.{Makes, MakesOr, Played, Reached};
 
 use crate::agenda::Agenda;
 use crate::events::{enabled, final_of};
@@ -25,7 +26,8 @@ pub fn play<L: Link>(world: &mut World<L>, limit: u64) -> Result<Vec<Event>, All
     let mut agenda = Agenda::of(alloc, &world.shape, &world.sites)?;
     let mut history = Vec::new(alloc);
     while (history.len() as u64) < limit {
-        let Some(event) = next_move(world, &mut agenda) else {
+        let next = next_move(world, &mut agenda)?;
+        let Some(event) = next else {
             return Ok(history);
         };
         history.push(event)?;
@@ -37,33 +39,67 @@ pub fn play<L: Link>(world: &mut World<L>, limit: u64) -> Result<Vec<Event>, All
 }
 
 /// The next event of the run; none where no event is enabled.
-fn next_move<L: Link>(world: &mut World<L>, agenda: &mut Agenda) -> Option<Event>
-    ensures { MatchOption result ((world.new ≡ world.old) × Rests world.old) (λ e. Makes e world.old world.new) }
+fn next_move<L: Link>(
+    world: &mut World<L>,
+    agenda: &mut Agenda,
+) -> Result<Option<Event>, AllocError>
+    ensures { MakesOr result (Rests world.old) world.old world.new }
 {
-    if let Some(event) = try_agenda(world, agenda) {
-        return Some(event);
+    match try_agenda(world, agenda)? {
+        Some(event) => Ok(Some(event)),
+        None => make_first(world, agenda),
     }
-    let event = enabled(world)?;
+}
+
+/// Makes the first event that is enabled; none where no event is.
+fn make_first<L: Link>(
+    world: &mut World<L>,
+    agenda: &mut Agenda,
+) -> Result<Option<Event>, AllocError>
+    ensures { MakesOr result (Rests world.old) world.old world.new }
+{
+    let Some(event) = enabled(world) else {
+        return Ok(None);
+    };
     agenda.mark_all();
     make(world, &event)
 }
 
 /// The first event of the agenda that is enabled.
-fn try_agenda<L: Link>(world: &mut World<L>, agenda: &mut Agenda) -> Option<Event>
-    ensures { MatchOption result (world.new ≡ world.old) (λ e. Makes e world.old world.new) }
+fn try_agenda<L: Link>(
+    world: &mut World<L>,
+    agenda: &mut Agenda,
+) -> Result<Option<Event>, AllocError>
+    ensures { MakesOr result ⊤ world.old world.new }
 {
     for _ in 0..MOST_TRIES {
-        let tried = agenda.next(world)?;
-        if let Some(event) = make(world, &tried) {
+        let Some(tried) = agenda.next(world) else {
+            return Ok(None);
+        };
+        if let Some(event) = make(world, &tried)? {
             agenda.happened(&event);
-            return Some(event);
+            return Ok(Some(event));
         }
     }
-    None
+    Ok(None)
 }
 
-/// Makes an event where it is enabled; a turn becomes the longest one of its thread.
-fn make<L: Link>(world: &mut World<L>, e: &Event) -> Option<Event>
+/// Makes an event where it is enabled; a turn becomes the longest one of its thread. A letter for the host may want memory.
+fn make<L: Link>(world: &mut World<L>, e: &Event) -> Result<Option<Event>, AllocError>
+    ensures { MakesOr result (happened e.now world.old ≡ None) world.old world.new }
+{
+    match *e {
+        Event::HostTake => {
+            let did = world.host_take()?;
+            Ok(made(did, *e))
+        }
+        _ => Ok(make_without(world, e)),
+    }
+}
+
+/// Makes an event that wants no memory, where it is enabled; a turn becomes the longest one of its thread.
+fn make_without<L: Link>(world: &mut World<L>, e: &Event) -> Option<Event>
+    requires { e.now ≢ event.HostTake }
     ensures { MatchOption result ((world.new ≡ world.old) × (happened e.now world.old ≡ None)) (λ made. Makes made world.old world.new) }
 {
     match *e {
@@ -75,6 +111,7 @@ fn make<L: Link>(world: &mut World<L>, e: &Event) -> Option<Event>
         Event::Depart(p, l) => made(world.depart(p, l), *e),
         Event::Arrive(l, p) => made(world.arrive(l, p), *e),
         Event::Route(p) => made(world.route(p), *e),
+        Event::HostPut => made(world.host_put(), *e),
         _ => None,
     }
 }

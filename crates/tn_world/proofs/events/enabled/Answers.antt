@@ -1,7 +1,7 @@
 use Rattle.std.proofs.Common.{◌≡◌, length, subst}
 use Rattle.tn_base.specs.Parts.{part_count}
 use Rattle.tn_rows.specs.WorldView.{WorldView}
-use Rattle.tn_world.proofs.Listed.{Each, last_list, listed_arrival, listed_delivery, listed_departure, listed_turn}
+use Rattle.tn_world.proofs.Listed.{Each, last_list, listed_arrival, listed_delivery, listed_departure, listed_routing, listed_turn}
 use Rattle.tn_world.proofs.events.enabled.Goals as goal
 
 pub returns-in-Some : goal.returns-in-Some
@@ -16,8 +16,11 @@ returns-in-Some-first_departure g c = listed_departure c.args.world.now c.in-Som
 pub returns-in-Some-first_arrival : goal.returns-in-Some-first_arrival
 returns-in-Some-first_arrival g c = listed_arrival c.args.world.now c.in-Some-first_arrival.e c.in_default.ensures c.in_default-first_delivery.ensures c.in_default-first_departure.ensures c.in-Some-first_arrival.ensures
 
+pub returns-in-Some-first_routing : goal.returns-in-Some-first_routing
+returns-in-Some-first_routing g c = listed_routing c.args.world.now c.in-Some-first_routing.e c.in_default.ensures c.in_default-first_delivery.ensures c.in_default-first_departure.ensures c.in_default-first_arrival.ensures c.in-Some-first_routing.ensures
+
 pub returns : goal.returns
 returns g c =
     let count = subst (λ (w : WorldView). length w.parts ≡ part_count w.shape) c.world.view_is c.world.invariant.world.count in
     let each = subst (λ (w : WorldView). Each w.shape) c.world.view_is c.law_threads.ensures.each in
-    last_list c.args.world.now c.first_routing.result count each c.in_default.ensures c.in_default-first_delivery.ensures c.in_default-first_departure.ensures c.in_default-first_arrival.ensures c.first_routing.ensures
+    last_list c.args.world.now c.first_of_host.result count each c.in_default.ensures c.in_default-first_delivery.ensures c.in_default-first_departure.ensures c.in_default-first_arrival.ensures c.in_default-first_routing.ensures c.first_of_host.ensures

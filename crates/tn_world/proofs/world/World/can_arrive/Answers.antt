@@ -1,4 +1,4 @@
-use Rattle.std.proofs.Common.{◌≡◌, ◌∙◌, ap, is_some, subst, sym}
+use Rattle.std.proofs.Common.{◌≡◌, ◌∙◌, ap, arith, is_some, subst, sym}
 use Rattle.tn_base.specs.declared.event.Event.TheVariants as event
 use Rattle.tn_base.specs.Parts.{kind_of}
 use Rattle.tn_rows.specs.Events.{happened}
@@ -10,6 +10,12 @@ use Rattle.tn_world.proofs.Pairs.{can_both, seen}
 use Rattle.tn_world.proofs.Ways.{LeadsTo, leads_onto}
 use Rattle.tn_world.proofs.Places.{At, read}
 use Rattle.tn_world.proofs.world.World.can_arrive.Goals as goal
+
+pub index-requires : goal.index-requires
+index-requires g c =
+    let w : WorldView = record { shape = c.self.inside.shape; parts = c.self.inside.parts.items } in
+    let joins : LeadsTo w c.args.p.0 c.args.l.0 c.in-Some.side = leads_onto w c.args.self.now.shape c.args.p.0 c.args.l.0 c.in-Some.side (ap (λ (w : WorldView). w.shape) c.self.view_is) c.in-Some.ensures c.law_links.ensures c.self.invariant.world in
+    omega (arith, joins.pair.low, c.self.inside.parts.ok)
 
 pub can_arrive-requires-clause-side : goal.can_arrive-requires-clause-side
 can_arrive-requires-clause-side g c =

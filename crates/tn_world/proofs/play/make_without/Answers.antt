@@ -5,7 +5,7 @@ use Rattle.tn_rows.specs.Events.{happened}
 use Rattle.tn_tile.specs.declared.deliver.Did.TheVariants as did
 use Rattle.tn_world.specs.Plays.{Makes}
 use Rattle.tn_world.proofs.Calm.{makes}
-use Rattle.tn_world.proofs.play.make.Goals as goal
+use Rattle.tn_world.proofs.play.make_without.Goals as goal
 
 pub returns-in-Route : goal.returns-in-Route
 returns-in-Route g c =
