@@ -10,6 +10,14 @@ pub(crate) const TRAPS: &[u8] =
 /// A thread that spins, with 100 steps to make.
 pub(crate) const SPINS: &[u8] = b"tinsel 1\nshape 1 1 1 1 1 1\nfuel 100\ncode all\n0000006f\nend\n";
 
+/// A thread with 64 KiB ends at once.
+pub(crate) const ENDS_AT_ONCE: &[u8] =
+    b"tinsel 1\nshape 1 1 1 1 1 1\nmem 65536\ncode all\n80b01073\nend\n";
+
+/// A thread with 64 KiB stores a zero at address 0, and ends.
+pub(crate) const STORES_A_ZERO: &[u8] =
+    b"tinsel 1\nshape 1 1 1 1 1 1\nmem 65536\ncode all\n00002023\n80b01073\nend\n";
+
 /// A thread writes 77 into its message, sends it to itself, polls until it is there, takes it, reads 77 from it, frees it
 /// and ends with 77.
 pub(crate) const ECHO: &[u8] =

@@ -1,7 +1,7 @@
 //! What a tile and a router say of themselves to the detector, which is not built yet, and what they do when they are told
 //! that the machine is at rest. Each is taken out of a machine after some events.
 
-use crate::jobs::{AGAINST, EAST, FOR, KEYED, SENDERS, SPINS, WAITS};
+use crate::jobs::{AGAINST, EAST, ENDS_AT_ONCE, FOR, KEYED, SENDERS, SPINS, STORES_A_ZERO, WAITS};
 use crate::machines::{after, machine};
 use std::alloc::Global;
 use std::test::Fail;
@@ -31,6 +31,8 @@ enum Act {
     Does(ThreadId, ThreadState),
     /// Whose packet a slot has, and which of its packets.
     Sender(u16, Option<(u32, u32)>),
+    /// How many pages of a thread's memory are made.
+    Pages(ThreadId, u32),
 }
 
 /// What a part says of itself.
@@ -75,11 +77,11 @@ fn tile_marks(tile: &Tile) -> Marks {
 
 /// How many of at most so many steps a thread makes.
 fn steps(tile: &mut Tile, t: ThreadId, most: u32) -> Option<u32> {
-    if most <= 64 && tile.is_here(t) && tile.counts() {
-        Some(tile.turn_up_to(t, most))
-    } else {
-        None
+    if most > 64 || !tile.is_here(t) || !tile.counts() {
+        return None;
     }
+    let mut stock = tile.stock(most).ok()?;
+    Some(tile.turn_up_to(t, most, &mut stock))
 }
 
 /// Whether a tile does this.
@@ -93,6 +95,7 @@ fn tile_does(tile: &mut Tile, act: Act) -> bool {
         Act::Steps(t, most, made) => return steps(tile, t, most) == Some(made),
         Act::Does(t, state) => return tile.is_here(t) && *tile.thread(t).state() == state,
         Act::Sender(slot, sender) => return tile.sender(slot) == sender,
+        Act::Pages(t, pages) => return tile.is_here(t) && tile.thread(t).written() == pages,
     }
     true
 }
@@ -128,7 +131,7 @@ fn router_does(router: &mut Router, act: Act) -> bool {
         Act::Release(value) => router.release(value),
         Act::Go => router.go(),
         Act::Offers(way, offers) => return router.offer(way).is_some() == offers,
-        Act::Steps(..) | Act::Does(..) | Act::Sender(..) => return false,
+        Act::Steps(..) | Act::Does(..) | Act::Sender(..) | Act::Pages(..) => return false,
     }
     true
 }
@@ -194,7 +197,20 @@ const WORKS: Marks = Marks {
     counter: -1,
 };
 
-static CASES: [Case; 11] = [
+static CASES: [Case; 13] = [
+    // A thread that stores nothing makes no page of its memory, and a thread that stores a zero makes one.
+    Case {
+        job: ENDS_AT_ONCE,
+        events: &[Event::Turn(FIRST, 1)],
+        part: 1,
+        acts: &[(Act::Pages(FIRST, 0), ENDED)],
+    },
+    Case {
+        job: STORES_A_ZERO,
+        events: &[Event::Turn(FIRST, 2)],
+        part: 1,
+        acts: &[(Act::Pages(FIRST, 1), ENDED)],
+    },
     // A thread that is idle with its vote against the end reads 1 once it is released, and makes no step before the tile
     // goes on.
     Case {
