@@ -5,10 +5,10 @@ ghost use Rattle.tn_pages.specs.Paged.{pages_for, pages_made, started, stored_in
 
 use crate::memory::PagedMemory;
 
-/// A memory that starts with an image has made as many pages as the image's bytes take.
+/// A memory that starts with an image has made at most as many pages as the image's bytes take.
 pub fn law_started(size: u32, image: &[u8])
     requires { length image.now ≤ size }
-    ensures { pages_made (started size image.now) ≡ pages_for (length image.now) }
+    ensures { pages_made (started size image.now) ≤ pages_for (length image.now) }
 {}
 
 /// A write makes at most one page.

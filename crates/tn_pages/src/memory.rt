@@ -1,6 +1,6 @@
 //! Memories in pages.
 
-ghost use Rattle.std.specs.Prelude.{◌≡◌, ◌≤◌, ◌<◌, ◌+◌, ◌-◌, ◌/◌, ◌%◌, ◌↔◌, [], false, true, count_by, if◌then◌else◌, IfOk, IsTrue, length, slice_index, slice_index_or, slice_set};
+ghost use Rattle.std.specs.Prelude.{◌≡◌, ◌≤◌, ◌<◌, ◌+◌, ◌-◌, ◌==◌, ◌/◌, ◌%◌, ◌↔◌, [], false, true, count_by, if◌then◌else◌, IfOk, IsTrue, length, slice_index, slice_index_or, slice_set};
 ghost use Rattle.tn_base.specs.Effects.{is_width};
 ghost use Rattle.tn_pages.specs.Numbers.{value_at};
 ghost use Rattle.tn_pages.specs.Paged.{Paged, pages_made, started, stored_in};
@@ -31,7 +31,7 @@ impl Model for PagedMemory {
 }
 
 impl PagedMemory {
-    /// `size` bytes: those of the image, and zeros behind them. The pages of the image alone are made.
+    /// `size` bytes: those of the image, and zeros behind them. The pages that have a byte other than 0 are made.
     pub fn new(alloc: Global, size: u32, image: &[u8]) -> Result<PagedMemory, AllocError>
         requires { length image.now ≤ size }
         ensures { IfOk result (λ m. m ≡ started size image.now) }
@@ -39,10 +39,22 @@ impl PagedMemory {
         let mut memory = PagedMemory::zeros(alloc, size)?;
         let mut stock = PageStock::of(alloc);
         for at in 0..image.len() {
-            stock.reserve(1)?;
-            memory.write(&mut stock, at, 1, u32::from(image[at]));
+            memory.put(&mut stock, at, image[at])?;
         }
         Ok(memory)
+    }
+
+    /// Puts a byte of an image at an address where a zero is. A zero makes no page.
+    fn put(&mut self, stock: &mut PageStock, at: usize, byte: u8) -> Result<(), AllocError>
+        requires { at < length self.old.bytes }
+        ensures { IfOk result (λ _. self.new ≡ (if byte == 0 then self.old else stored_in self.old at 1 byte)) }
+    {
+        if byte == 0 {
+            return Ok(());
+        }
+        stock.reserve(1)?;
+        self.write(stock, at, 1, u32::from(byte));
+        Ok(())
     }
 
     /// So many zeros, without a page.

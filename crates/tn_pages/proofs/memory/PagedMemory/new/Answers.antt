@@ -1,10 +1,13 @@
-use Rattle.std.proofs.Common.{◌%◌, ◌≡◌, ◌∙◌, arith, get_or}
-use Rattle.tn_pages.proofs.Start.{started_more}
+use Rattle.std.proofs.Common.{◌<◌, ◌≡◌, ◌==◌, ◌∙◌, arith, get_or, if◌then◌else◌, refl}
+use Rattle.tn_pages.specs.Paged.{stored_in}
+use Rattle.tn_pages.proofs.Start.{started_next}
 use Rattle.tn_pages.proofs.memory.PagedMemory.new.Goals as goal
 
 pub loop-at-preserved : goal.loop-at-preserved
 loop-at-preserved c =
-    let small = c.type_inv.image c.loop-at.at in
-    let from = c.from.ensures in
-    let v : c.from.result % 256 ≡ get_or c.args.image.now c.loop-at.at 0 = omega arith in
-    c.write.ensures.memory ∙ rw (c.loop-at.invariant, v) (started_more c.args.size c.loop-at.at c.args.image.now c.requires c.loop-at-test.true)
+    let at = c.loop-at.at in
+    let x = get_or c.args.image.now at 0 in
+    let fits = c.type_inv.image at in
+    let small : x < 256 = omega arith in
+    let put : c.put.new.self ≡ (if x == 0 then c.loop-at.memory else stored_in c.loop-at.memory at 1 x) = c.in_ok-put.ensures in
+    put ∙ rw c.loop-at.invariant (started_next c.args.size at x c.args.image.now c.requires c.loop-at-test.true small refl)
