@@ -16,7 +16,7 @@ use Rattle.tn_tile.specs.declared.state.TileState.{TileState}
 use Rattle.tn_tile.specs.Rows.{accept_row, accepted, came, passed}
 use Rattle.tn_tile.specs.TileView.{TilePlan, TileView, now_by, with_now}
 use Rattle.tn_rows.specs.Events.{after, carried, happened, happened_at, met_by, met_with, meets, meets_at, with_both}
-use Rattle.tn_rows.specs.PartView.{PartView, TileV, RouterV, LinkV, AbsentV, tile_of}
+use Rattle.tn_rows.specs.PartView.{PartView, TileV, RouterV, LinkV, HostV, AbsentV, tile_of}
 use Rattle.tn_rows.specs.Places.{leads_to, two_if}
 use Rattle.tn_rows.specs.WorldView.{WorldView}
 use Rattle.tn_letters.specs.Steps.{arrival_steps, delivery_steps, event_steps, steps_at}
@@ -39,6 +39,7 @@ read_tile None v e = cc e
 read_tile (Some (TileV u)) v e = ap (λ (x : Option TileView). Some (TileV (unwrap_or x v))) e
 read_tile (Some (RouterV x)) v e = cc e
 read_tile (Some (LinkV x)) v e = cc e
+read_tile (Some (HostV h)) v e = cc e
 read_tile (Some AbsentV) v e = cc e
 
 some_taken : {X : Type 0} (b : Bool) (o : Option X) → is_some (cond b o None) ≡ true → (b ≡ true) × (is_some o ≡ true)

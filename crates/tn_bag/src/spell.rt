@@ -1,6 +1,6 @@
 //! The steps of the bag machine that a history spells.
 
-ghost use Rattle.std.specs.Prelude.{◌≡◌, ◌++◌, IfOk, IsSome, IsTrue, MatchOption, OnOk, map, option_and_then, option_copied, slice_get};
+ghost use Rattle.std.specs.Prelude.{◌≡◌, ◌-◌, ◌++◌, IfOk, IsSome, IsTrue, MatchOption, OnOk, map, option_and_then, option_copied, option_map, slice_get};
 ghost use Rattle.std.specs.List.{filter};
 ghost use Rattle.tn_base.specs.Address.{place_in_tile};
 ghost use Rattle.tn_tile.specs.Rows.{is_here};
@@ -8,22 +8,27 @@ ghost use Rattle.tn_tile.specs.Step.{pending_at};
 ghost use Rattle.tn_letters.specs.declared.steps.BagStep.TheVariants as bag;
 ghost use Rattle.tn_base.specs.declared.event.Event.TheVariants as event;
 ghost use Rattle.tn_base.specs.Message.{has_packet};
+ghost use Rattle.tn_base.specs.Parts.{part_count};
+ghost use Rattle.tn_host.specs.Script.{first_item};
 ghost use Rattle.tn_rows.specs.Events.{carried, happened};
-ghost use Rattle.tn_rows.specs.PartView.{tile_of};
+ghost use Rattle.tn_rows.specs.PartView.{host_of, tile_of};
 ghost use Rattle.tn_rows.specs.Places.{part_of};
 ghost use Rattle.tn_rows.specs.Runs.{Run};
 ghost use Rattle.tn_rows.specs.WorldView.{WorldView};
 ghost use Rattle.tn_keys.specs.Copies.{only_if};
-ghost use Rattle.tn_letters.specs.Steps.{bag_of, delivery_steps, event_steps, is_for_dead};
+ghost use Rattle.tn_letters.specs.Steps.{bag_of, delivery_steps, event_steps, is_for_dead, send_steps, take_steps};
 ghost use Rattle.tn_keys.specs.Reach.{Reach};
 
-use crate::letters::plain_letters;
+use crate::letters::{letter_for, plain_letters};
 use crate::turns::push_turn;
 use std::alloc::{AllocError, Global};
 use tn_base::event::Event;
 use tn_base::ids::{PartId, ThreadId};
-use tn_base::message::{Letter, Packet};
+use tn_base::message::{HOST, Letter, Packet};
 use tn_base::port::Port;
+use tn_base::shape::Shape;
+use tn_host::host::Host;
+use tn_host::script::ScriptItem;
 use tn_letters::steps::BagStep;
 use tn_link::link::Link;
 use tn_thread::state::ThreadState;
@@ -72,6 +77,11 @@ fn push_event<L: Link>(
             Some(tile) => push_delivery(all, alloc, tile, front_at(world, l)),
             None => Ok(()),
         },
+        Event::HostPut => match host_of(world) {
+            Some(host) => push_message(all, host),
+            None => Ok(()),
+        },
+        Event::HostTake => push_taken(all, front_at(world, link_to_host(world.shape()))),
         _ => Ok(()),
     }
 }
@@ -94,11 +104,53 @@ fn tile_at<L: Link>(world: &World<L>, p: PartId) -> Option<&Tile>
     world.parts().get(p.0 as usize)?.as_tile()
 }
 
+/// The host, which is the first part.
+fn host_of<L: Link>(world: &World<L>) -> Option<&Host>
+    ensures { option_map (λ h. h.now.now) result ≡ option_and_then host_of (slice_get world.now.parts 0) }
+{
+    world.parts().first()?.as_host()
+}
+
+/// The link that leads to the host.
+fn link_to_host(shape: &Shape) -> PartId
+    ensures { result.0 ≡ part_count shape.now - 3 }
+{
+    PartId(shape.part_count() - 3)
+}
+
 /// The first packet of the link that a part is.
 fn front_at<L: Link>(world: &World<L>, l: PartId) -> Option<&Packet>
     ensures { option_copied result ≡ option_and_then carried (slice_get world.now.parts l.0) }
 {
     world.parts().get(l.0 as usize)?.as_link()?.front()
+}
+
+/// The host sends the letter that its next item is, if that item is a message.
+fn push_message(all: &mut Vec<BagStep>, host: &Host) -> Result<(), AllocError>
+    ensures { OnOk result (all.new.items ≡ all.old.items ++ send_steps host.now.now.sends (first_item host.now.now.script)) }
+{
+    if let Some(ScriptItem::Send(t, bytes)) = host.rest().first() {
+        let letter = Letter {
+            origin: HOST,
+            number: host.sends(),
+            receiver: t.0,
+            bytes: bytes.copy(),
+        };
+        all.push(BagStep::HostSend { letter })?;
+    }
+    Ok(())
+}
+
+/// The host takes the letter of a packet.
+fn push_taken(all: &mut Vec<BagStep>, packet: Option<&Packet>) -> Result<(), AllocError>
+    ensures { OnOk result (all.new.items ≡ all.old.items ++ take_steps (option_copied packet.entry)) }
+{
+    if let Some(packet) = packet {
+        all.push(BagStep::HostHand {
+            letter: letter_for(packet, HOST),
+        })?;
+    }
+    Ok(())
 }
 
 /// The letters that are dropped where a thread's packet is delivered.

@@ -9,7 +9,7 @@ use Rattle.tn_base.specs.declared.op.Op.{Op}
 use Rattle.tn_base.specs.declared.op.Op.TheVariants as op
 use Rattle.tn_letters.specs.declared.steps.BagStep.{BagStep}
 use Rattle.tn_letters.specs.declared.steps.BagStep.TheVariants as bag
-use Rattle.tn_letters.specs.Conserved.{EveryRunConserves, EveryRunHands, handed_to, leaving, sending, sent_in, sent_with}
+use Rattle.tn_letters.specs.Conserved.{EveryRunConserves, EveryRunHands, EveryRunHandsTheHost, handed_to, leaving, sending, sent_in, sent_with, taken_by_host}
 use Rattle.tn_keys.specs.Copies.{only_if}
 use Rattle.tn_letters.specs.Letters.{Takes}
 use Rattle.tn_letters.specs.Machine.{BagRun, Happens, ended_by, own_step, sent_by, with_own_step}
@@ -142,3 +142,44 @@ every_run_hands m start end (step ∷ steps) a there run =
     every_run_hands m run.1 end steps a there run.4
     ∙ (ap (λ (ls : List Letter). ls ++ flat_map (handed_to a) steps) (step_hands m step run.0 run.1 a run.3 ∙ ap (λ (ls : List Letter). ls ++ handed_to a step) (sym (run.2.got a there)))
     ∙ append_assoc (start.got a) (handed_to a step) (flat_map (handed_to a) steps))
+
+-- ---- what the host took
+
+ended_host : (o : Op) (b : ℕ) (s : BagState) → (ended_by o b s).host ≡ s.host
+ended_host op.None b s = refl
+ended_host (op.Send to bytes) b s = refl
+ended_host op.Hand b s = refl
+ended_host (op.Free slot) b s = refl
+ended_host (op.Idle vote) b s = refl
+ended_host (op.Kill value) b s = refl
+ended_host (op.Trap why) b s = refl
+
+sent_host : (m : Program) (b number : ℕ) (o : Op) (s new : BagState) → sent_by m b number o s ≡ Some new → new.host ≡ s.host
+sent_host m b number (op.Send to bytes) s new e = sym (ap (λ (x : Option BagState). (unwrap_or x new).host) e)
+sent_host m b number op.None s new e = cc e
+sent_host m b number op.Hand s new e = cc e
+sent_host m b number (op.Free slot) s new e = cc e
+sent_host m b number (op.Idle vote) s new e = cc e
+sent_host m b number (op.Kill value) s new e = cc e
+sent_host m b number (op.Trap why) s new e = cc e
+
+abbrev host_letters : BagState → List Letter
+host_letters s = s.host
+
+step_takes : (m : Program) (step : BagStep) (old new : BagState) → Happens m step old new → new.host ≡ old.host ++ taken_by_host step
+step_takes m (bag.Private b seen) old new h = none_got old.host new.host (ap host_letters h.2 ∙ ended_host (own_step m b seen old).op b (with_own_step m b seen old))
+step_takes m (bag.Send b seen) old new h = none_got old.host new.host (sent_host m b (old.threads b).sends (own_step m b seen old).op (with_own_step m b seen old) new h.1)
+step_takes m (bag.Hand b seen l) old new h = none_got old.host new.host (ap host_letters h.2.3)
+step_takes m (bag.Free b seen slot) old new h = none_got old.host new.host (ap host_letters h.2)
+step_takes m (bag.Idle b seen vote) old new h = none_got old.host new.host (ap host_letters h.2)
+step_takes m bag.Announce old new h = none_got old.host new.host (ap host_letters h.1)
+step_takes m (bag.HostSend l) old new h = none_got old.host new.host (ap host_letters h.4)
+step_takes m (bag.HostHand l) old new h = ap host_letters h.3
+step_takes m (bag.Discard l) old new h = none_got old.host new.host (ap host_letters h.4)
+
+pub every_run_hands_the_host : EveryRunHandsTheHost
+every_run_hands_the_host m start end [] run = sym run.host ∙ sym (append-nil start.host)
+every_run_hands_the_host m start end (step ∷ steps) run =
+    every_run_hands_the_host m run.1 end steps run.4
+    ∙ (ap (λ (ls : List Letter). ls ++ flat_map taken_by_host steps) (step_takes m step run.0 run.1 run.3 ∙ ap (λ (ls : List Letter). ls ++ taken_by_host step) (sym run.2.host))
+    ∙ append_assoc start.host (taken_by_host step) (flat_map taken_by_host steps))

@@ -3,6 +3,7 @@ pub mod Conserved
 pub mod Copies
 pub mod Crossings
 pub mod Delivery
+pub mod EventParts
 pub mod Fitting
 pub mod Holding
 pub mod Homes
@@ -16,7 +17,10 @@ pub mod Receivers
 pub mod Routers
 pub mod Runs
 pub mod Simulate
+pub mod SlotChanges
 pub mod SlotLaw
+pub mod SlotPuts
+pub mod SlotThreads
 pub mod Slots
 pub mod Starts
 pub mod Sums

@@ -48,7 +48,7 @@ use Rattle.tn_rows.specs.Events.{Met, after, carried, crossing_of, deed_of, happ
 use Rattle.tn_rows.specs.Places.{Places, Nowhere, One, Two, leads_from, leads_to, link_way, places, two_if, way_between, way_of_kind}
 use Rattle.tn_stamp.specs.declared.entry.Crossing.{Crossing}
 use Rattle.tn_stamp.specs.declared.entry.Crossing.TheVariants as crossing
-use Rattle.tn_rows.specs.Runs.{Run}
+use Rattle.tn_rows.specs.Runs.{Run, Walk}
 use Rattle.tn_letters.specs.Steps.{bag_of, delivery_steps, event_steps, meeting_steps, part_steps, put_steps, steps_at, take_steps, taking_steps, tile_steps, turn_steps}
 use Rattle.tn_letters.proofs.Delivery.{delivery_reached}
 use Rattle.tn_letters.proofs.Simulate.{Place, Reached, shown}
@@ -558,3 +558,15 @@ run_reached got dropped (e ∷ es) w end good run =
     let rest = run_reached one.now one.gone es run.0 end one.good run.3 in
     subst (λ (steps : List BagStep). Reached got dropped w (event_steps e w ++ steps) end) (sym (ap (λ (o : Option WorldView). unwrap_or (option_map (λ mid. bag_of mid es) o) []) run.1))
     (reached_join got dropped w run.0 end (event_steps e w) (bag_of run.0 es) one rest)
+
+-- ---- walks
+
+-- each run is a walk
+pub run_walk : (start end : WorldView) (events : List Event) → Run start events end → Walk start events end
+run_walk start end [] run = run
+run_walk start end (e ∷ es) run = (run.0, run.1, run_walk run.0 end es run.3)
+
+-- what holds of a machine holds after a walk
+pub walk_good : (events : List Event) (start end : WorldView) → Good start → Walk start events end → Good end
+walk_good [] start end good walk = subst Good walk good
+walk_good (e ∷ es) start end good walk = walk_good es walk.0 end (event_reached (λ _. []) [] e start walk.0 good walk.1).good walk.2

@@ -66,3 +66,19 @@ handed_to a (bag.Discard l) = []
 -- what a thread got is what it had got before and what the steps handed to it, in their order
 abbrev pub EveryRunHands : Type 0
 EveryRunHands = (m : Program) (start end : BagState) (steps : List BagStep) (a : ℕ) → IsTrue (has_thread m.shape a) → BagRun m start steps end → end.got a ≡ start.got a ++ flat_map (handed_to a) steps
+
+-- the letter that the host takes in a step, if it does
+abbrev pub taken_by_host : BagStep → List Letter
+taken_by_host (bag.Private a seen) = []
+taken_by_host (bag.Send a seen) = []
+taken_by_host (bag.Hand a seen l) = []
+taken_by_host (bag.Free a seen slot) = []
+taken_by_host (bag.Idle a seen vote) = []
+taken_by_host bag.Announce = []
+taken_by_host (bag.HostSend l) = []
+taken_by_host (bag.HostHand l) = l ∷ []
+taken_by_host (bag.Discard l) = []
+
+-- the host's letters are those that it had and those that it took in the steps, in their order
+abbrev pub EveryRunHandsTheHost : Type 0
+EveryRunHandsTheHost = (m : Program) (start end : BagState) (steps : List BagStep) → BagRun m start steps end → end.host ≡ start.host ++ flat_map taken_by_host steps

@@ -115,7 +115,7 @@ pub record IsAtRest (n : ShapeNumbers) (s : BagState) : Type 0 where
 abbrev pub answer : ShapeNumbers → BagState → ℕ
 answer n s = if list_all (λ a. votes_for (s.threads a).state) (addresses n) then 2 else 1
 
--- a host that waits for the rest goes on
+-- the idle threads read the answer, and a host that waits for the rest goes on
 abbrev pub announced : ShapeNumbers → BagState → BagState
 announced n s = record s {
   threads = λ a. told (answer n s) (s.threads a);
