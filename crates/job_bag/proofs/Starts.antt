@@ -1,13 +1,19 @@
 -- The start of an accepted job is a start of the bag machine's law.
-use Rattle.std.proofs.Common.{ℕ, ◌≡◌, ◌≤◌, ◌<◌, ◌+◌, IsTrue, List, [], ◌∷◌, get_or, length, map, zero, suc, refl, sym, ap, subst, ◌∙◌, arith}
-use Rattle.std.specs.List.{AllByRecursion, range_with_len}
+use Rattle.std.proofs.Common.{ℕ, ◌≡◌, ◌≤◌, ◌<◌, ◌+◌, Bool, true, false, not, cond, IsTrue, List, [], ◌∷◌, get_or, length, map, zero, suc, refl, sym, ap, subst, ◌∙◌, arith, Some, None, if◌then◌else◌}
+use Rattle.std.specs.Prelude.{nat_le}
+use Rattle.std.specs.List.{AllByRecursion, cons_option, filter_map, range_with_len}
+use Rattle.std.proofs.lemmas.Bool.{and_parts}
 use Rattle.std.proofs.lemmas.List.{get_or-map, length-map}
 use Rattle.std.proofs.lemmas.List.FromFn.{get_or-map-range_with_len, length-map-range_with_len}
 use Rattle.tn_base.specs.declared.part.Kind.{Kind}
 use Rattle.tn_base.specs.declared.part.Kind.TheVariants as kind
 use Rattle.tn_base.specs.Address.{has_thread, in_tile, tile_threads}
 use Rattle.tn_base.specs.declared.shape.ShapeNumbers.{ShapeNumbers}
+use Rattle.tn_base.specs.Bytes.{is_length}
+use Rattle.tn_base.specs.Message.{slot_bytes}
 use Rattle.tn_base.specs.Parts.{board_at, board_count, kind_of, parts, router_part}
+use Rattle.tn_host.specs.declared.script.ScriptItem.{ScriptItem}
+use Rattle.tn_host.specs.declared.script.ScriptItem.TheVariants as item
 use Rattle.tn_keys.specs.Accepted.{Accepted}
 use Rattle.tn_keys.specs.Tables.{Table}
 use Rattle.tn_rows.proofs.Neighbours.{kind_router, router_within}
@@ -17,14 +23,21 @@ use Rattle.tn_tile.specs.Kept.{AreStarts}
 use Rattle.tn_tile.specs.Step.{no_thread}
 use Rattle.job_text.specs.declared.job.FillLine.{FillLine}
 use Rattle.job_text.specs.declared.job.Job.{Job}
+use Rattle.job_text.specs.declared.job.ScriptLine.{ScriptLine}
+use Rattle.job_text.specs.declared.job.ScriptText.{ScriptText}
+use Rattle.job_text.specs.declared.job.ScriptText.TheVariants.{Send, Idle}
+use Rattle.job_load.specs.declared.fault.FaultName.TheVariants as fault
+use Rattle.job_load.specs.declared.fault.LoadFault.{LoadFault}
 use Rattle.job_load.specs.Assembly.{sections_of}
 use Rattle.job_load.specs.Code.{code_of}
+use Rattle.job_load.specs.Faults.{fault_at, is_message, item_fault, send_fault}
 use Rattle.job_load.specs.Images.{IsWithin, memory_of}
 use Rattle.job_load.specs.Laws.{IsMemory}
 use Rattle.job_load.specs.Laws.{IsStart as IsJobStart}
+use Rattle.job_load.specs.Script.{item_of, script_of}
 use Rattle.job_load.specs.Start.{by_address, part_start, start_of, thread_start}
 use Rattle.job_load.specs.Tables.{table_for, tables_of as job_tables}
-use Rattle.tn_letters.specs.Law.{IsStart, StartsSo}
+use Rattle.tn_letters.specs.Law.{IsSendable, IsStart, StartsSo}
 use Rattle.tn_letters.specs.Tiles.{beats_on, tables_of}
 
 -- each thread's memory is as large as the machine says
@@ -41,12 +54,29 @@ threads_are job tile sized = record {
   };
 }
 
-part_starts : (job : Job) (k : Kind) → IsSized job → StartsSo job.numbers (part_start job k)
-part_starts job (kind.Tile tile) sized = (code_of (sections_of job) tile.0, by_address (thread_start job) job.numbers tile.0, threads_are job tile.0 sized, refl)
-part_starts job kind.Host sized = tt
-part_starts job (kind.Router board) sized = (table_for job board, refl)
-part_starts job (kind.Link from onto) sized = refl
-part_starts job kind.Detector sized = tt
+-- what the host sends are messages of the machine
+no_fault : (there message : Bool) (f g : LoadFault) → (if not there then Some f else if message then None else Some g) ≡ None → (there ≡ true) × (message ≡ true)
+no_fault true true f g e = (refl, refl)
+no_fault true false f g e = cc e
+no_fault false message f g e = cc e
+
+item_is : (n : ShapeNumbers) (line : ℕ) (text : ScriptText) (items : List ScriptItem) → item_fault n line text ≡ None → AllByRecursion (IsSendable n) items → AllByRecursion (IsSendable n) (cons_option (item_of text) items)
+item_is n line Idle items e all = (tt, all)
+item_is n line (Send thread bytes) items e all =
+    let fits = no_fault (has_thread n thread) (is_message n (length bytes)) (fault_at line fault.BadThread) (fault_at line fault.BadMessage) e in
+    let long = and_parts (is_length (length bytes)) (nat_le (length bytes) (slot_bytes n)) fits.1 in
+    subst (λ b. AllByRecursion (IsSendable n) (cons_option (cond b (Some (item.Send (record { 0 = thread }) bytes)) None) items)) (sym long.0) ((fits.0, long.1), all)
+
+items_are : (n : ShapeNumbers) (lines : List ScriptLine) → AllByRecursion (λ l. send_fault n l ≡ None) lines → AllByRecursion (IsSendable n) (filter_map (λ (l : ScriptLine). item_of l.item) lines)
+items_are n [] all = tt
+items_are n (l ∷ ls) all = item_is n l.line l.item (filter_map (λ (x : ScriptLine). item_of x.item) ls) all.0 (items_are n ls all.1)
+
+part_starts : (job : Job) (k : Kind) → IsSized job → AllByRecursion (λ l. send_fault job.numbers l ≡ None) job.script → StartsSo job.numbers (part_start job k)
+part_starts job (kind.Tile tile) sized sends = (code_of (sections_of job) tile.0, by_address (thread_start job) job.numbers tile.0, threads_are job tile.0 sized, refl)
+part_starts job kind.Host sized sends = (script_of job, items_are job.numbers job.script sends, refl)
+part_starts job (kind.Router board) sized sends = (table_for job board, refl)
+part_starts job (kind.Link from onto) sized sends = refl
+part_starts job kind.Detector sized sends = tt
 
 -- the table of each board's router is the job's
 router_table : (job : Job) (i : ℕ) → i < board_count job.numbers → beats_on (get_or (map (part_start job) (parts job.numbers)) (router_part job.numbers i) AbsentV) ≡ table_for job (board_at job.numbers i)
@@ -74,7 +104,7 @@ start_is job s sized = record {
   parts = λ p h.
       let long = length-map (parts job.numbers) (part_start job) in
       let e = get_or-map (part_start job) (parts job.numbers) p kind.Detector AbsentV (omega arith) in
-      rw e (part_starts job (kind_of job.numbers p) sized);
+      rw e (part_starts job (kind_of job.numbers p) sized s.sends);
   tables = subst (Accepted job.numbers) (sym (tables_are job)) s.tables;
 }
 

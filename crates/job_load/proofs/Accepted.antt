@@ -19,7 +19,7 @@ use Rattle.job_load.specs.declared.fault.FaultName.TheVariants as fault
 use Rattle.job_load.specs.declared.fault.LoadFault.{LoadFault}
 use Rattle.job_load.specs.Code.{code_of, is_empty, lacks_code}
 use Rattle.job_load.specs.Assembly.{sections_of}
-use Rattle.job_load.specs.Faults.{asm_fault, beat_fault, beat_lines, fault_at, fill_fault, has_board, missing_fault, number_fault, place_fault, section_fault, shape_line, unbuilt_fault, unbuilt_line}
+use Rattle.job_load.specs.Faults.{asm_fault, beat_fault, beat_lines, fault_at, fill_fault, has_board, missing_fault, number_fault, place_fault, section_fault, send_fault, shape_line, unbuilt_fault, unbuilt_line}
 use Rattle.job_load.specs.Images.{IsWithin}
 use Rattle.job_load.specs.Labels.{labels_fault}
 use Rattle.job_load.specs.Room.{room_fault}
@@ -89,7 +89,7 @@ boards_there n (t ∷ ts) all = (board_there n t (has_board n t) all.0, boards_t
 
 fresh_part : (job : Job) (k : Kind) → IsFreshPart (part_start job k)
 fresh_part job (kind.Tile tile) = record { pending = refl; pool = refl; node = refl; dropped = refl; going = refl }
-fresh_part job kind.Host = tt
+fresh_part job kind.Host = refl
 fresh_part job (kind.Router board) = record { inputs = refl; node = refl; going = refl }
 fresh_part job (kind.Link from onto) = refl
 fresh_part job kind.Detector = tt
@@ -110,6 +110,7 @@ start_by job numbers sections missing tables =
       fills = fills_there job.numbers job.fills (none_soonest (fill_fault job.numbers) job.fills none.second);
       boards = boards_there job.numbers job.tables (none_soonest (place_fault job.numbers) job.tables none.third);
       beats = none_soonest (beat_fault job.version) (beat_lines job.tables) none.fourth;
+      sends = none_soonest (send_fault job.numbers) job.script none.fifth;
       tables = faultless job tables;
       fresh = fresh_parts job (parts job.numbers);
     }

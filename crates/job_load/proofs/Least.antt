@@ -1,12 +1,14 @@
 -- The least of some lines.
 use Rattle.std.proofs.Common.{ℕ, ◌≡◌, ◌⊎◌, ◌≤◌, ◌∷◌, ◌++◌, ◌∙◌, [], Bool, true, false, List, Option, Some, None, map, nat_lt, min, inl, inr, refl, arith, option_map}
 use Rattle.std.specs.List.{AllByRecursion}
-use Rattle.std.specs.List.{fold}
+use Rattle.std.specs.List.{filter, fold}
 use Rattle.std.proofs.lemmas.Bool.Decides.{nat_tests}
 use Rattle.std.proofs.lemmas.List.{append-nil}
 use Rattle.job_text.specs.declared.job.Job.{Job}
+use Rattle.job_text.specs.declared.job.ScriptLine.{ScriptLine}
 use Rattle.job_load.specs.Faults.{earlier, first_line, unbuilt_line}
 use Rattle.job_load.specs.Laws.{IsIn, IsLeast, line_of, unbuilt_lines}
+use Rattle.job_load.specs.Script.{waits}
 
 all_above : (k l : ℕ) (ls : List ℕ) → k ≤ l → AllByRecursion (λ m. l ≤ m) ls → AllByRecursion (λ m. k ≤ m) ls
 all_above k l [] h all = tt
@@ -62,5 +64,6 @@ least_one (Some line) = (inl refl, (omega arith, tt))
 
 pub least_unbuilt : (job : Job) → IsLeast (unbuilt_line job) (unbuilt_lines job)
 least_unbuilt job =
-    least_join (first_line (λ item. item.line) job.script) (option_map (λ graph. graph.line) job.graph) (map (λ item. item.line) job.script) (line_of (option_map (λ graph. graph.line) job.graph))
-    (least_of (λ item. item.line) job.script) (least_one (option_map (λ graph. graph.line) job.graph))
+    let idle : List ScriptLine = filter (λ (l : ScriptLine). waits l.item) job.script in
+    least_join (first_line (λ (l : ScriptLine). l.line) idle) (option_map (λ graph. graph.line) job.graph) (map (λ (l : ScriptLine). l.line) idle) (line_of (option_map (λ graph. graph.line) job.graph))
+    (least_of (λ (l : ScriptLine). l.line) idle) (least_one (option_map (λ graph. graph.line) job.graph))

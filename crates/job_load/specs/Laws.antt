@@ -1,6 +1,6 @@
 -- What the definitions of faults and of memory mean.
 use Rattle.std.specs.Prelude.{ℕ, ◌≡◌, ◌⊎◌, ◌≤◌, ◌<◌, ◌+◌, ◌-◌, ◌++◌, ◌&&◌, List, [], ◌∷◌, length, map, nat_le, nat_lt, Option, Some, None, option_map, replicate, slice_index, if◌then◌else◌, IsTrue}
-use Rattle.std.specs.List.{AllByRecursion, filter_map}
+use Rattle.std.specs.List.{AllByRecursion, filter, filter_map}
 use Rattle.std.specs.Option.{option_or, unwrap_or}
 use Rattle.tn_base.specs.Address.{has_thread, tile_threads}
 use Rattle.tn_base.specs.Message.{slot_bytes}
@@ -11,7 +11,8 @@ use Rattle.tn_node.specs.NodeRows.{fresh_node}
 use Rattle.tn_node.specs.PortRows.{no_values}
 use Rattle.tn_router.specs.RouterView.{RouterView}
 use Rattle.tn_rows.specs.Events.{IsWorld}
-use Rattle.tn_rows.specs.PartView.{PartView, TileV, RouterV, LinkV, AbsentV}
+use Rattle.tn_host.specs.Rows.{fresh_state as fresh_host}
+use Rattle.tn_rows.specs.PartView.{PartView, TileV, RouterV, LinkV, HostV, AbsentV}
 use Rattle.tn_rows.specs.WorldView.{WorldView}
 use Rattle.tn_slots.specs.Pool.{fresh}
 use Rattle.tn_tile.specs.TileView.{TileView}
@@ -22,6 +23,7 @@ use Rattle.job_load.specs.Assembly.{sections_of}
 use Rattle.job_load.specs.Code.{code_of}
 use Rattle.job_load.specs.Faults.{beat_fault, beat_lines, code_fault, fill_fault, has_board, place_fault, send_fault}
 use Rattle.job_load.specs.Images.{IsWithin, fills_of, memory_of}
+use Rattle.job_load.specs.Script.{waits}
 use Rattle.job_load.specs.Start.{start_of}
 use Rattle.job_load.specs.Tables.{tables_of}
 
@@ -70,7 +72,7 @@ line_of (Some line) = line ∷ []
 
 -- all lines that give what is not there yet
 abbrev pub unbuilt_lines : Job → List ℕ
-unbuilt_lines job = map (λ item. item.line) job.script ++ line_of (option_map (λ graph. graph.line) job.graph)
+unbuilt_lines job = map (λ l. l.line) (filter (λ l. waits l.item) job.script) ++ line_of (option_map (λ graph. graph.line) job.graph)
 
 abbrev pub IsIn : ℕ → List ℕ → Type 0
 IsIn line [] = ⊥
@@ -101,6 +103,7 @@ abbrev pub IsFreshPart : PartView → Type 0
 IsFreshPart (TileV v) = IsFresh v
 IsFreshPart (RouterV v) = IsFreshRouter v
 IsFreshPart (LinkV v) = v.packets ≡ []
+IsFreshPart (HostV s) = s ≡ fresh_host s.script
 IsFreshPart AbsentV = Unit {0}
 
 -- the machine of an accepted job at its start
@@ -112,5 +115,6 @@ pub record IsStart (job : Job) (w : WorldView) : Type 0 where
   pub fills : AllByRecursion (λ f. IsTrue (has_thread job.numbers f.thread) × IsWithin job.numbers.mem f) job.fills
   pub boards : AllByRecursion (λ table. IsTrue (has_board job.numbers table)) job.tables
   pub beats : AllByRecursion (λ beat. beat_fault job.version beat ≡ None) (beat_lines job.tables)
+  pub sends : AllByRecursion (λ l. send_fault job.numbers l ≡ None) job.script
   pub tables : Accepted job.numbers (tables_of job)
   pub fresh : AllByRecursion IsFreshPart w.parts

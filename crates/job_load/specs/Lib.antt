@@ -11,5 +11,6 @@ pub mod Mixed
 pub mod Names
 pub mod Room
 pub mod Routed
+pub mod Script
 pub mod Start
 pub mod Tables

@@ -18,6 +18,7 @@ mod mixed;
 pub mod numbers;
 mod room;
 mod routed;
+mod script;
 mod sections;
 mod start;
 mod tables;

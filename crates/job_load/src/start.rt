@@ -11,6 +11,7 @@ ghost use Rattle.job_load.specs.Start.{IsThere, by_address, part_start, start_of
 
 use crate::code::code_of;
 use crate::image::Images;
+use crate::script::script_of;
 use crate::tables::table_for;
 use job_text::job::{CodeSection, Job};
 use std::alloc::{AllocError, Global};
@@ -18,6 +19,7 @@ use tn_base::ids::{PartId, TileId};
 use tn_base::laws::law_tiles;
 use tn_base::part::Kind;
 use tn_base::shape::Shape;
+use tn_host::host::Host;
 use tn_link::plain::PlainLink;
 use tn_router::router::Router;
 use tn_thread::thread::Thread;
@@ -94,7 +96,11 @@ fn part_of(
             let beats = table_for(alloc, job, board)?;
             Ok(Part::router(Router::of(shape, board, beats)))
         }
-        Kind::Host | Kind::Detector => Ok(Part::absent()),
+        Kind::Host => {
+            let script = script_of(alloc, job)?;
+            Ok(Part::host(Host::of(alloc, script)))
+        }
+        Kind::Detector => Ok(Part::absent()),
     }
 }
 

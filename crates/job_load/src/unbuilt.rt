@@ -1,10 +1,13 @@
 //! What the machine does not have yet.
 
 ghost use Rattle.std.specs.Prelude.{◌≡◌, option_map};
+ghost use Rattle.std.specs.List.{filter};
 ghost use Rattle.job_load.specs.Faults.{earlier, first_line, unbuilt_fault, unbuilt_line};
+ghost use Rattle.job_load.specs.Script.{waits};
 
 use crate::fault::{FaultName, LoadFault};
 use crate::numbers::fault_at;
+use crate::script::waits;
 use job_text::job::{Job, ScriptLine, TextSection};
 
 /// The earlier one of two lines.
@@ -18,10 +21,15 @@ fn earlier(a: Option<u32>, b: Option<u32>) -> Option<u32>
     }
 }
 
-fn first_script_line(script: &[ScriptLine]) -> Option<u32>
-    ensures { result ≡ first_line (λ item. item.line) script.now }
+/// The first line at which the host waits for the machine's rest.
+fn first_wait(script: &[ScriptLine]) -> Option<u32>
+    ensures { result ≡ first_line (λ l. l.line) (filter (λ l. waits l.item) script.now) }
 {
-    script.iter().map(|item| item.line).min()
+    script
+        .iter()
+        .filter(|line| waits(&line.item))
+        .map(|line| line.line)
+        .min()
 }
 
 fn graph_line(graph: &Option<TextSection>) -> Option<u32>
@@ -37,8 +45,8 @@ fn graph_line(graph: &Option<TextSection>) -> Option<u32>
 fn unbuilt_line(job: &Job) -> Option<u32>
     ensures { result ≡ unbuilt_line job.now }
 {
-    let script = first_script_line(job.script.as_slice());
-    earlier(script, graph_line(&job.graph))
+    let wait = first_wait(job.script.as_slice());
+    earlier(wait, graph_line(&job.graph))
 }
 
 /// What the machine does not have yet, the first in order of lines.

@@ -64,12 +64,12 @@ brought (event.Deliver t) w p = pending_at (tile_on w p).now (place_in_tile (til
 brought (event.Arrive l q) w p = option_and_then carried (slice_get w.parts l.0)
 brought _ w p = None
 
--- slot s has the bytes and the sender of packet k. The receivers of the packet that are alive are owed the slot, and no thread holds it
+-- slot s has the bytes and the sender of packet k. The packet's receivers that are alive are owed the slot, and no thread holds the slot
 pub record HasMessage (s : ℕ) (k : Packet) (old new : TileView) : Type 0 where
   pub slot : slot_at new.now.pool s ≡ record { bytes = k.bytes; owed = alive_of old.now.threads (receivers old.plan.shape k.dest); holders = 0 }
   pub sender : sender_at new s ≡ record { origin = k.origin; number = k.number }
 
--- in each walk from a start: if a thread becomes owed a slot in an event, the event put the packet that it brought into the slot
+-- in each walk from a start, if a thread becomes owed a slot, the event brought a packet to the tile and put it into the slot
 abbrev pub EveryPutIsOfItsPacket : Type 0
 EveryPutIsOfItsPacket = (start old new : WorldView) (history : List Event) (e : Event) (p s k : ℕ) → IsStart start → Walk start history old → happened e old ≡ Some new →
     bit_at (slot_at (tile_on old p).now.pool s).owed k < bit_at (slot_at (tile_on new p).now.pool s).owed k → MatchOption (brought e old p) ⊥ (λ q. HasMessage s q (tile_on old p) (tile_on new p))

@@ -13,7 +13,7 @@ use Rattle.tn_base.specs.declared.part.Kind.{Kind}
 use Rattle.tn_base.specs.declared.part.Kind.TheVariants as kind
 use Rattle.tn_base.specs.declared.shape.ShapeNumbers.{ShapeNumbers}
 use Rattle.tn_rows.specs.Events.{FitsKind, IsWorld}
-use Rattle.tn_rows.specs.PartView.{PartView, TileV, RouterV, LinkV, AbsentV}
+use Rattle.tn_rows.specs.PartView.{PartView, TileV, RouterV, LinkV, HostV, AbsentV}
 use Rattle.tn_rows.specs.WorldView.{WorldView}
 use Rattle.tn_thread.specs.declared.thread.Thread.{Thread}
 use Rattle.tn_base.specs.declared.ids.TileId.{TileId}
@@ -90,6 +90,7 @@ no_lines n p (TileV v) fits out =
     elim out [ inl h ↦ absurd (omega arith) | inr h ↦ absurd (omega arith) ]
 no_lines n p (RouterV v) fits out = refl
 no_lines n p (LinkV v) fits out = refl
+no_lines n p (HostV s) fits out = refl
 no_lines n p AbsentV fits out = refl
 
 -- the lines of a tile
@@ -104,6 +105,7 @@ fitted n a (TileV v) fits count =
     ∙ ap (λ (m : ℕ). flat_map (λ k. exit_text (in_tile n a k) (get_or v.now.threads k no_thread).state) (range_with_len 0 m)) count
 fitted n a (RouterV v) fits count = absurd fits
 fitted n a (LinkV v) fits count = absurd fits
+fitted n a (HostV s) fits count = absurd fits
 fitted n a AbsentV fits count = absurd fits
 
 parts_are : (n : ShapeNumbers) → part_count n ≡ 1 + (tile_count n + length (from_routers n))

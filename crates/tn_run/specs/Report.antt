@@ -6,9 +6,10 @@ use Rattle.tn_base.specs.declared.event.Trap.{Trap}
 use Rattle.tn_base.specs.declared.event.Trap.TheVariants.{BadInstr, BadFetch, Misaligned, BadAddress, BadCsr, BadDest, SendBusy, RecvEmpty, BadFree, Environment, BadPin, BadLocalKey}
 use Rattle.tn_base.specs.declared.shape.ShapeNumbers.{ShapeNumbers}
 use Rattle.tn_base.specs.Address.{in_tile}
-use Rattle.tn_rows.specs.PartView.{PartView, TileV, RouterV, LinkV, AbsentV}
+use Rattle.tn_rows.specs.PartView.{PartView, TileV, RouterV, LinkV, HostV, AbsentV}
 use Rattle.tn_rows.specs.WorldView.{WorldView}
 use Rattle.tn_text.specs.Hex.{hex_word_text}
+use Rattle.tn_trace.specs.Host.{hosts_text}
 use Rattle.tn_thread.specs.declared.state.ThreadState.{ThreadState}
 use Rattle.tn_thread.specs.declared.state.ThreadState.TheVariants as state
 use Rattle.tn_thread.specs.declared.thread.Thread.{Thread}
@@ -45,6 +46,7 @@ abbrev pub part_exits : PartView → List ℕ
 part_exits (TileV v) = exits_from v.plan.shape v.plan.tile 0 v.now.threads
 part_exits (RouterV v) = []
 part_exits (LinkV v) = []
+part_exits (HostV s) = []
 part_exits AbsentV = []
 
 -- those of all threads, by address
@@ -64,6 +66,19 @@ outcome_text (Outcome.BadKey key) = codes "badkey " ++ hex_word_text key ++ code
 outcome_text (Outcome.Spent thread) = codes "spent " ++ decimal thread.0 ++ codes "\n"
 outcome_text Outcome.Jammed = codes "jammed\n"
 
+-- the letters that a part took as the host
+abbrev pub part_hosts : PartView → List ℕ
+part_hosts (TileV v) = []
+part_hosts (RouterV v) = []
+part_hosts (LinkV v) = []
+part_hosts (HostV s) = hosts_text s.got
+part_hosts AbsentV = []
+
+-- those that the host took, in the order taken
+abbrev pub taken_text : List PartView → List ℕ
+taken_text [] = []
+taken_text (p ∷ ps) = part_hosts p ++ taken_text ps
+
 -- the report of a run that ended so with this machine
 abbrev pub report_text : WorldView → Outcome → List ℕ
-report_text end outcome = exits_text end.parts ++ dropped_text (dropped_in end) ++ outcome_text outcome
+report_text end outcome = taken_text end.parts ++ exits_text end.parts ++ dropped_text (dropped_in end) ++ outcome_text outcome

@@ -2,7 +2,7 @@
 ghost use Rattle.std.specs.Prelude.{◌≡◌, ◌++◌, OnOk, codes, sum_by};
 ghost use Rattle.tn_letters.specs.Law.{dropped_on};
 ghost use Rattle.tn_text.specs.Hex.{hex_word_text};
-ghost use Rattle.tn_run.specs.Report.{dropped_text, exit_text, exits_from, exits_text, outcome_text, part_exits, report_text, trap_text};
+ghost use Rattle.tn_run.specs.Report.{dropped_text, exit_text, exits_from, exits_text, outcome_text, part_exits, part_hosts, report_text, taken_text, trap_text};
 
 use std::alloc::{AllocError, Global};
 use tn_base::event::{Outcome, Trap};
@@ -10,6 +10,7 @@ use tn_link::plain::PlainLink;
 use tn_text::print::{push_decimal, push_hex_word};
 use tn_thread::state::ThreadState;
 use tn_tile::tile::Tile;
+use tn_trace::host::push_hosts;
 use tn_world::part::Part;
 use tn_world::world::World;
 
@@ -97,6 +98,26 @@ fn push_part_exits(
     }
 }
 
+/// Appends the lines of the letters that the host took, in the order taken.
+fn push_taken(text: &mut Vec<u8>, parts: &[Part<PlainLink>]) -> Result<(), AllocError>
+    ensures { OnOk result (text.new.items ≡ text.old.items ++ taken_text parts.now) }
+{
+    for part in parts {
+        push_part_hosts(text, part)?;
+    }
+    Ok(())
+}
+
+/// Appends the lines of the letters that a part took as the host.
+fn push_part_hosts(text: &mut Vec<u8>, part: &Part<PlainLink>) -> Result<(), AllocError>
+    ensures { OnOk result (text.new.items ≡ text.old.items ++ part_hosts part.now) }
+{
+    let Some(host) = part.as_host() else {
+        return Ok(());
+    };
+    push_hosts(text, host.got())
+}
+
 /// How many letters were dropped on a part since their receivers were dead.
 fn dropped_on(part: &Part<PlainLink>) -> u64
     ensures { result ≡ dropped_on part.now }
@@ -171,6 +192,7 @@ pub(crate) fn push_report(
 ) -> Result<(), AllocError>
     ensures { OnOk result (text.new.items ≡ text.old.items ++ report_text end.now outcome) }
 {
+    push_taken(text, end.parts())?;
     push_exits(alloc, text, end.parts())?;
     push_dropped(alloc, text, count_dropped(end.parts()))?;
     push_outcome(alloc, text, outcome)
