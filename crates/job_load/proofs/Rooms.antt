@@ -1,17 +1,16 @@
 -- The bytes of the states of a thread's vertices.
-use Rattle.std.proofs.Common.{◌≡◌, ◌≢◌, ◌<◌, ◌≤◌, ℕ, suc, zero, ◌+◌, ◌-◌, ◌*◌, eqb, cond, Bool, true, false, IsTrue, List, [], ◌∷◌, replicate, length, get_or, set, nat_lt, Option, Some, None, refl, sym, ◌∙◌, ap, arith, slice_get, slice_index, slice_set}
+use Rattle.std.proofs.Common.{◌≡◌, ◌≢◌, ◌<◌, ◌≤◌, ℕ, suc, zero, ◌+◌, ◌-◌, ◌*◌, eqb, cond, Bool, true, false, List, [], ◌∷◌, replicate, length, get_or, set, nat_lt, refl, sym, ◌∙◌, ap, arith, slice_get}
 use Rattle.std.proofs.lemmas.Bool.Decides.{nat_tests}
 use Rattle.std.proofs.lemmas.List.{get_or-set_other, get_or-set_same}
-use Rattle.std.proofs.lemmas.List.{get_or-replicate, length-replicate}
+use Rattle.std.proofs.lemmas.List.{get_or-replicate}
 use Rattle.std.specs.List.{All, list_any, range_with_len}
 use Rattle.tn_base.specs.declared.shape.ShapeNumbers.{ShapeNumbers}
-use Rattle.tn_base.specs.Address.{has_thread}
 use Rattle.tn_sums.specs.Totals.{total}
 use Rattle.tn_sums.proofs.Laws.{total-suc, total_nothing}
 use Rattle.graph_text.specs.declared.graph.Graph.{Graph}
 use Rattle.graph_text.specs.declared.graph.VertexRow.{VertexRow}
 use Rattle.graph_text.specs.declared.graph.KindRow.{KindRow}
-use Rattle.graph_text.specs.Graph.{IsGraph, IsKind, IsVertex, words_at, words_of_kind}
+use Rattle.graph_text.specs.Graph.{IsGraph, IsKind, IsVertex, words_of_kind}
 use Rattle.polite_place.specs.declared.placement.Seat.{Seat}
 use Rattle.polite_place.specs.Seats.{Seated, seat_of}
 use Rattle.polite_routes.proofs.Each.{parts}

@@ -1,5 +1,5 @@
 -- A job's graph, the places of its vertices, and its routes.
-use Rattle.std.specs.Prelude.{ℕ, ◌≡◌, ◌+◌, ◌^◌, ◌<◌, Bool, List, [], ◌∷◌, length, nat_lt, slice_index, MatchOption, Option, Some, None, if◌then◌else◌}
+use Rattle.std.specs.Prelude.{ℕ, ◌≡◌, ◌<◌, Bool, List, [], ◌∷◌, length, nat_lt, slice_index, MatchOption, Option, Some, None, if◌then◌else◌}
 use Rattle.std.specs.declared.result.Result.{Result}
 use Rattle.std.specs.declared.result.Result.TheVariants.{Ok, Err}
 use Rattle.tn_base.specs.declared.shape.ShapeNumbers.{ShapeNumbers}
