@@ -1,0 +1,5 @@
+pub mod Happens
+pub mod Law
+pub mod Quiet
+pub mod RestView
+pub mod Tests
