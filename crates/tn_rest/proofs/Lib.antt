@@ -4,4 +4,5 @@ pub mod More
 pub mod Open
 pub mod RowsTell
 pub mod Runs
+pub mod Seen
 pub mod Totals

@@ -1,9 +1,11 @@
 -- The laws of rest. A machine has n visited parts and m links.
 use Rattle.std.specs.Prelude.{ℕ, ◌<◌, ◌≤◌, ◌≡◌, ◌≢◌, ◌⊎◌, false, pos, length, List, Some, None, IsSome}
+use Rattle.std.specs.List.{All}
 use Rattle.tn_detect.specs.declared.phase.Phase.TheVariants as phase
 use Rattle.tn_detect.specs.Notes.{answer_of}
 use Rattle.tn_detect.specs.Rows.{announce_row, begin_row, confirm_row, go_row, release_row, report_row}
 use Rattle.tn_rest.specs.RestView.{RestView}
+use Rattle.tn_rest.specs.Seen.{SeenPart, Steps, Walk, seen}
 use Rattle.tn_rest.specs.Happens.{Announce, Arrive, Begin, Confirm, Depart, Go, Happens, Release, Report, RestEvent, Run, Work}
 use Rattle.tn_rest.specs.Quiet.{IsAtRest, IsQuiet, notes_of, report_of}
 
@@ -37,6 +39,17 @@ AnnouncesAtRest = (n m : ℕ) (events : List RestEvent) (start old new : RestVie
 abbrev pub OnlyReleasesChange : Type 0
 OnlyReleasesChange = (n m i j : ℕ) (e : RestEvent) (old new : RestView) → IsQuiet n m old → old.detector.phase ≡ phase.Release i → i ≤ j → j < n → Happens n m e old new → ((e ≡ Release i) × (j ≡ i)) ⊎ (new.part j ≡ old.part j)
 
+-- part j shows what it showed before, and comes to be released still
+pub record Waits (j : ℕ) (old new : RestView) : Type 0 where
+  pub part : new.part j ≡ old.part j
+  pub next : ℕ
+  pub before : next ≤ j
+  pub phase : new.detector.phase ≡ phase.Release next
+
+-- from an announcement until the release of part j, part j does not change
+abbrev pub WaitsForRelease : Type 0
+WaitsForRelease = (n m i j : ℕ) (events : List RestEvent) (old new : RestView) → 0 < n → IsQuiet n m old → old.detector.phase ≡ phase.Release i → i ≤ j → j < n → All (λ e. e ≢ Release j) events → Run n m old events new → Waits j old new
+
 -- the detector's side of an event is enabled
 abbrev pub Can : ℕ → RestEvent → RestView → Type 0
 Can n (Report j) w = (j < n) × IsSome (report_row j (w.part j).view w.detector)
@@ -54,3 +67,14 @@ OpenAtRest = (n m : ℕ) (w : RestView) → IsQuiet n m w → IsAtRest n m w →
 
 abbrev pub OpenOutsideCollect : Type 0
 OpenOutsideCollect = (n m : ℕ) (w : RestView) → IsQuiet n m w → w.detector.phase ≢ phase.Collect → (e : RestEvent) × Can n e w
+
+-- ---- a machine whose parts are a list
+
+abbrev pub EachStepHappens : Type 0
+EachStepHappens = (n m : ℕ) (e : RestEvent) (old new : List SeenPart) → Steps n m e old new → Happens n m e (seen n m old) (seen n m new)
+
+abbrev pub WalksAreQuiet : Type 0
+WalksAreQuiet = (n m : ℕ) (events : List RestEvent) (start end : List SeenPart) → 0 < n → IsStart n (seen n m start) → Walk n m start events end → IsQuiet n m (seen n m end)
+
+abbrev pub WalksAnnounceAtRest : Type 0
+WalksAnnounceAtRest = (n m : ℕ) (events : List RestEvent) (start old new : List SeenPart) → 0 < n → IsStart n (seen n m start) → Walk n m start events old → Steps n m Announce old new → Announces n m (seen n m old) (seen n m new)
