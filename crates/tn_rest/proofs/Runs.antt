@@ -1,5 +1,5 @@
 -- Every event, every run, the start, and what follows an announcement.
-use Rattle.std.proofs.Common.{ℕ, ◌≢◌, refl, cond, ◌+◌, ◌<◌, ◌≤◌, ◌≡◌, sym, ◌∙◌, ap, subst, inl, inr, arith, false, List, [], ◌∷◌, Some}
+use Rattle.std.proofs.Common.{ℕ, suc, ◌≢◌, refl, cond, ◌+◌, ◌<◌, ◌≤◌, ◌≡◌, sym, ◌∙◌, ap, subst, inl, inr, arith, false, List, [], ◌∷◌, Some}
 use Rattle.std.specs.Prelude.{pos, ◌⊎◌}
 use Rattle.std.specs.List.{All}
 use Rattle.std.proofs.lemmas.Bool.{cases_eq, ne_eqb}
@@ -124,6 +124,7 @@ pub waits : (n m i j : ℕ) (es : List RestEvent) (old new : RestView) → 0 < n
 waits n m i j [] old new some q ph a l without r = subst (λ (w : RestView). Waits j old w) (sym r) (record { part = refl; next = i; before = a; phase = ph })
 waits n m i j (e ∷ es) old new some q ph a l without r =
     let mid = r.0 in
-    let next = still_releasing n m i j e old mid ph a l without.0 r.1 in
-    let later = waits n m next.0 j es mid new some (keeps n m e old mid some q r.1) next.2 next.1 l without.1 r.2 in
-    record { part = later.part ∙ unchanged n m i j e old mid q ph a l without.0 r.1; next = later.next; before = later.before; phase = later.phase }
+    let first : e ≢ Release j = without 0 e (omega arith) in
+    let next = still_releasing n m i j e old mid ph a l first r.1 in
+    let later = waits n m next.0 j es mid new some (keeps n m e old mid some q r.1) next.2 next.1 l (λ k d h. without (suc k) d (omega arith)) r.2 in
+    record { part = later.part ∙ unchanged n m i j e old mid q ph a l first r.1; next = later.next; before = later.before; phase = later.phase }

@@ -1,5 +1,5 @@
 -- What an event does to the list of parts is an event of the machine as it is seen.
-use Rattle.std.proofs.Common.{ℕ, ◌+◌, ◌<◌, ◌≤◌, ◌≡◌, ◌≢◌, refl, sym, ◌∙◌, ap, subst, inl, inr, arith, cond, Bool, true, false, List, [], ◌∷◌, Option, Some, None, slice_get}
+use Rattle.std.proofs.Common.{ℕ, ◌+◌, ◌<◌, ◌≤◌, ◌≡◌, ◌≢◌, sym, ◌∙◌, ap, subst, inl, inr, arith, cond, true, false, List, [], ◌∷◌, Option, Some, slice_get}
 use Rattle.std.specs.Prelude.{nat_lt, ◌⊎◌}
 use Rattle.std.proofs.lemmas.Bool.{cases_eq, cases_lt, le-ltb, lt-ltb}
 use Rattle.tn_detect.specs.declared.facts.PartView.{PartView}
@@ -11,8 +11,8 @@ use Rattle.tn_rest.specs.declared.facts.Facts.{Facts}
 use Rattle.tn_rest.specs.Happens.{Announce, Arrive, Begin, Confirm, Depart, Go, Happens, OnDetector, OnPart, Release, Report, RestEvent, Run, Work}
 use Rattle.tn_rest.specs.Law.{Announces, IsStart}
 use Rattle.tn_rest.specs.Quiet.{IsQuiet}
-use Rattle.tn_rest.specs.RestView.{Changed, Gets, RestView, Same, Sends, Turns, Whitens, Works}
-use Rattle.tn_rest.specs.Seen.{Becomes, Detector, DetectorSteps, Link, OnlyAt, PartSteps, SeenPart, Steps, Visited, Walk, detector_of, facts_of, no_facts, packets_of, seen}
+use Rattle.tn_rest.specs.RestView.{Changed, Gets, Same, Sends, Turns, Whitens, Works}
+use Rattle.tn_rest.specs.Seen.{Becomes, DetectorSteps, Link, OnlyAt, PartSteps, SeenPart, Steps, Visited, Walk, detector_of, facts_of, no_facts, packets_of, seen}
 use Rattle.tn_rest.proofs.Runs.{announces, runs}
 
 -- ---- what is seen at a place
