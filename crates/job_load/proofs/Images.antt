@@ -4,7 +4,8 @@ use Rattle.std.specs.List.{AllByRecursion}
 use Rattle.std.proofs.lemmas.Bool.{cases_eq, eq-eqb, ne_eqb}
 use Rattle.std.proofs.lemmas.List.{append-nil, drop-append-le, drop_all, get_or-set_other, get_or-set_same, length-drop, length-replicate, length-take-le, replicate-append-replicate, take-append-le}
 use Rattle.job_text.specs.declared.job.FillLine.{FillLine}
-use Rattle.job_load.specs.Images.{AreImages, IsWithin, filled, fills_of, image_at, image_with, laid, memory_of, overlaid}
+use Rattle.job_load.specs.Images.{AreImages, IsWithin, fills_of, image_at, image_with, laid, memory_of, overlaid}
+use Rattle.tn_pages.specs.Paged.{filled}
 use Rattle.job_load.proofs.Ranges.{rest_first}
 
 -- what is long enough is not filled up

@@ -25,7 +25,8 @@ use Rattle.job_load.specs.declared.fault.FaultName.TheVariants as fault
 use Rattle.job_load.specs.Assembly.{sections_of}
 use Rattle.job_load.specs.Code.{code_of}
 use Rattle.job_load.specs.Faults.{beat_fault, beat_lines, code_fault, fault_at, fill_fault, place_fault, section_fault, send_fault, soonest}
-use Rattle.job_load.specs.Images.{AreImages, IsWithin, filled, image_at, memory_of}
+use Rattle.job_load.specs.Images.{AreImages, IsWithin, image_at, memory_of}
+use Rattle.tn_pages.specs.Paged.{filled, started_with}
 use Rattle.job_load.specs.Start.{by_address, part_start, start_of, thread_over, thread_start, tile_start}
 use Rattle.job_load.proofs.Faults.{NoneFound, none_of_five, none_soonest}
 use Rattle.job_load.proofs.Images.{filled_long, filled_none}
@@ -34,7 +35,7 @@ use Rattle.job_load.proofs.Ranges.{map_same}
 -- Images and memories.
 
 same_start : (n : ShapeNumbers) (id : ThreadId) (a b : List ℕ) → filled n.mem a ≡ filled n.mem b → started n id a None ≡ started n id b None
-same_start n id a b e = ap (λ m. record (started n id [] None) { mem = m }) e
+same_start n id a b e = ap (λ m. record (started n id [] None) { mem = started_with n.mem m }) e
 
 -- a thread over its image is the thread over the whole memory that the image stands for
 pub thread_same : (n : ShapeNumbers) (fills : List FillLine) (images : List (List ℕ)) → AreImages n.mem fills images → (thread : ℕ) →

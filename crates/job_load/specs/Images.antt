@@ -1,6 +1,7 @@
 -- The memory of threads at the start.
 use Rattle.std.specs.Prelude.{ℕ, ◌≡◌, ◌≤◌, ◌+◌, ◌-◌, ◌==◌, ◌++◌, List, [], ◌∷◌, drop, filter, length, replicate, slice_index_or, take}
 use Rattle.job_text.specs.declared.job.FillLine.{FillLine}
+use Rattle.tn_pages.specs.Paged.{filled}
 
 -- memory with other bytes from an address on
 abbrev pub laid : List ℕ → ℕ → List ℕ → List ℕ
@@ -19,10 +20,6 @@ abbrev pub memory_of : ℕ → List FillLine → ℕ → List ℕ
 memory_of size fills thread = overlaid (replicate size 0) (fills_of thread fills)
 
 -- An image is the front of a memory that has zeros behind it.
-
--- the memory of this size
-abbrev pub filled : ℕ → List ℕ → List ℕ
-filled size image = image ++ replicate (size - length image) 0
 
 -- an image with other bytes from an address on, which is as long as need be
 abbrev pub image_with : List ℕ → ℕ → List ℕ → List ℕ

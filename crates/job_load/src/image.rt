@@ -2,7 +2,8 @@
 
 ghost use Rattle.std.specs.Prelude.{◌≡◌, ◌≤◌, ◌<◌, ◌+◌, ◌^◌, ◌==◌, [], ℕ, IfOk, length, if◌then◌else◌};
 ghost use Rattle.std.specs.List.{AllByRecursion};
-ghost use Rattle.job_load.specs.Images.{AreImages, IsWithin, filled, image_at, image_with, laid};
+ghost use Rattle.job_load.specs.Images.{AreImages, IsWithin, image_at, image_with, laid};
+ghost use Rattle.tn_pages.specs.Paged.{filled};
 
 use job_text::job::FillLine;
 use std::alloc::{AllocError, Global};
