@@ -1,3 +1,4 @@
+pub mod Agreed
 pub mod Changed
 pub mod Given
 pub mod PortLaws

@@ -1,4 +1,5 @@
 pub mod Deed
+pub mod Facts
 pub mod NodeRows
 pub mod PortRows
 pub mod SamePacket

@@ -1,23 +1,28 @@
 -- What each event leaves as it is, and what the detector sees of it.
-use Rattle.std.proofs.Common.{◌≡◌, Bool, true, false, cond, List, [], ◌∷◌, refl, sym, ap, subst, ◌∙◌, inl, inr, Option, Some, None, is_some, option_map, pos, ◌+ℤ◌, ◌-ℤ◌}
+use Rattle.std.proofs.Common.{ℕ, ◌≡◌, MatchOption, Bool, true, false, cond, List, [], ◌∷◌, refl, sym, ap, subst, ◌∙◌, inl, inr, Option, Some, None, is_some, option_map, pos, ◌+ℤ◌, ◌-ℤ◌}
 use Rattle.std.proofs.lemmas.Bool.{and_parts, cases_Bool}
 use Rattle.tn_base.specs.declared.message.Packet.{Packet}
 use Rattle.tn_base.specs.declared.port.Port.{Port}
 use Rattle.tn_base.specs.Does.{Does}
 use Rattle.tn_keys.specs.Tables.{HasBoard}
 use Rattle.tn_node.specs.Deed.{Deed}
+use Rattle.tn_node.specs.declared.facts.PartFacts.{PartFacts}
+use Rattle.tn_node.specs.declared.node.Node.{Node}
+use Rattle.tn_node.specs.declared.ports.Ports.{Ports}
 use Rattle.tn_node.specs.Deed as deed
-use Rattle.tn_node.specs.NodeRows.{departed, depart_row as node_departs, offered}
+use Rattle.tn_node.specs.Facts.{with_value}
+use Rattle.tn_node.specs.NodeRows.{departed, depart_row as node_departs, held_back, let_go, offered, whitened}
 use Rattle.tn_node.specs.PortRows.{all_empty, at, with_at}
 use Rattle.tn_node.specs.SamePacket.{is_packet}
+use Rattle.tn_node.proofs.Agreed.{Own, own_given, own_taken, still_given, still_taken}
 use Rattle.tn_node.proofs.PortLaws.{empty_at}
 use Rattle.tn_router.specs.declared.moves.Move.{Move}
 use Rattle.tn_router.specs.declared.state.RouterState.{RouterState}
 use Rattle.tn_router.specs.declared.work.Work.{Work}
-use Rattle.tn_router.specs.Kept.{IsFit, MoveFits}
+use Rattle.tn_router.specs.Kept.{FitsWay, IsFit, MoveFits}
 use Rattle.tn_router.specs.Moves.{move_of}
 use Rattle.tn_router.specs.Rest.{started}
-use Rattle.tn_router.specs.Rows.{accept_row, carried, depart_row, first_move, first_of, has_room, is_still, move_at, move_with, or_else, received, router_deed, route_row, sides, with_node}
+use Rattle.tn_router.specs.Rows.{accept_row, carried, depart_row, first_move, first_of, gone_on, has_room, is_still, move_at, move_with, or_else, received, released, router_deed, router_facts, router_whitened, route_row, sides, with_node}
 use Rattle.tn_router.specs.RouterView.{RouterPlan, RouterView, now_by, with_now}
 use Rattle.tn_router.proofs.Moved.{placed_fits}
 use Rattle.tn_router.proofs.Shaped.{Accepts, Departs, accepts, carried_shaped, departs, gone_shaped, notes_shaped, work_shaped}
@@ -120,6 +125,64 @@ accept_shaped plan side p s t f h =
     let is : received plan side p s ≡ t = cc (a.row, h) in
     subst (IsFit plan) is (notes_shaped plan (record s { inputs = with_at side (Some (started plan.beats p)) s.inputs }) (s.node.counter -ℤ pos 1) true s.node.held s.ended (work_shaped plan s side (Some (started plan.beats p)) a.fits f))
 
+-- what the detector's deeds make of a router: the facts are the router's own, and the router becomes what the call of this name says
+pub record ReportDeed (f : PartFacts) (old new : RouterState) : Type 0 where
+  pub facts : f ≡ with_value (router_facts old) f
+  pub still : is_still old ≡ true
+  pub is : new ≡ router_whitened old
+
+pub record ConfirmDeed (f : PartFacts) (old new : RouterState) : Type 0 where
+  pub facts : f ≡ with_value (router_facts old) f
+  pub is : new ≡ old
+
+pub record ReleaseDeed (f : PartFacts) (old new : RouterState) : Type 0 where
+  pub facts : f ≡ with_value (router_facts old) f
+  pub is : new ≡ released old
+
+pub record GoDeed (f : PartFacts) (old new : RouterState) : Type 0 where
+  pub facts : f ≡ with_value (router_facts old) f
+  pub is : new ≡ gone_on old
+
+pub report_deed : (plan : RouterPlan) (i : ℕ) (f : PartFacts) (s t : RouterState) → router_deed plan (deed.Report i f) s ≡ Some t → ReportDeed f s t
+report_deed plan i f s t e =
+    let o = still_taken (router_facts s) f (router_whitened s) t e in
+    record { facts = o.0.facts; still = o.1; is = sym o.0.is }
+
+pub confirm_deed : (plan : RouterPlan) (i : ℕ) (f : PartFacts) (s t : RouterState) → router_deed plan (deed.Confirm i f) s ≡ Some t → ConfirmDeed f s t
+confirm_deed plan i f s t e =
+    let o : Own (router_facts s) f s t = own_taken (router_facts s) f s t e in
+    record { facts = o.facts; is = sym o.is }
+
+pub release_deed : (plan : RouterPlan) (i : ℕ) (f : PartFacts) (s t : RouterState) → router_deed plan (deed.Release i f) s ≡ Some t → ReleaseDeed f s t
+release_deed plan i f s t e =
+    let o : Own (router_facts s) f (released s) t = own_taken (router_facts s) f (released s) t e in
+    record { facts = o.facts; is = sym o.is }
+
+pub go_deed : (plan : RouterPlan) (i : ℕ) (f : PartFacts) (s t : RouterState) → router_deed plan (deed.Go i f) s ≡ Some t → GoDeed f s t
+go_deed plan i f s t e =
+    let o : Own (router_facts s) f (gone_on s) t = own_taken (router_facts s) f (gone_on s) t e in
+    record { facts = o.facts; is = sym o.is }
+
+-- a router can do each of them with its own facts, whatever the detector's answer is; it reports only if it is still
+pub record TellsOwn (plan : RouterPlan) (s : RouterState) : Type 0 where
+  pub reports : (i value : ℕ) → is_still s ≡ true → router_deed plan (deed.Report i (record (router_facts s) { value = value })) s ≡ Some (router_whitened s)
+  pub confirms : (i value : ℕ) → router_deed plan (deed.Confirm i (record (router_facts s) { value = value })) s ≡ Some s
+  pub releases : (i value : ℕ) → router_deed plan (deed.Release i (record (router_facts s) { value = value })) s ≡ Some (released s)
+  pub goes : (i value : ℕ) → router_deed plan (deed.Go i (record (router_facts s) { value = value })) s ≡ Some (gone_on s)
+
+pub tells_own : (plan : RouterPlan) (s : RouterState) → TellsOwn plan s
+tells_own plan s = record {
+  reports = λ i value still. still_given (router_facts s) value (router_whitened s) still;
+  confirms = λ i value. own_given (router_facts s) value s;
+  releases = λ i value. own_given (router_facts s) value (released s);
+  goes = λ i value. own_given (router_facts s) value (gone_on s);
+}
+
+-- another node with the same packets keeps what fits
+node_shaped : (plan : RouterPlan) (s t : RouterState) (node : Node) → node.out ≡ s.node.out → t ≡ with_node s node → IsFit plan s → IsFit plan t
+node_shaped plan s t node same is f =
+    subst (IsFit plan) (sym is) (record { works = f.works; waits = subst (λ (out : Ports Packet). (way : Port) → MatchOption (at way out) (Unit {0}) (FitsWay plan.shape plan.board way)) (sym same) f.waits })
+
 given : {X Y : Type 0} (b : Bool) (o : Option X) (f : X → Y) (y : Y) → option_map f (cond b o None) ≡ Some y → option_map f o ≡ Some y
 given true o f y h = h
 given false o f y h = cc h
@@ -130,6 +193,14 @@ deed_shaped plan (deed.Deliver u) s t b f h = cc h
 deed_shaped plan (deed.Give way k) s t b f h = depart_shaped plan way s t f (given (is_packet k (offered way s.node)) (node_departs way s.node) (with_node s) t h)
 deed_shaped plan (deed.Take side k) s t b f h = accept_shaped plan side k s t f h
 deed_shaped plan deed.Route s t b f h = route_shaped plan s t b f h
+deed_shaped plan (deed.HostPut k) s t b f h = cc h
+deed_shaped plan (deed.HostTake k) s t b f h = cc h
+deed_shaped plan (deed.Report i g) s t b f h = node_shaped plan s t (whitened s.node) refl (report_deed plan i g s t h).is f
+deed_shaped plan deed.Begin s t b f h = cc h
+deed_shaped plan (deed.Confirm i g) s t b f h = subst (IsFit plan) (sym (confirm_deed plan i g s t h).is) f
+deed_shaped plan deed.Announce s t b f h = cc h
+deed_shaped plan (deed.Release i g) s t b f h = node_shaped plan s t (held_back s.node) refl (release_deed plan i g s t h).is f
+deed_shaped plan (deed.Go i g) s t b f h = node_shaped plan s t (let_go s.node) refl (go_deed plan i g s t h).is f
 
 -- a Route that did what its row says keeps what fits, whether it was enabled or not
 pub routed_fits : (plan : RouterPlan) (happened : Bool) (s t : RouterState) → HasBoard plan.shape plan.board → IsFit plan s → Does happened (route_row plan s) s t → IsFit plan t

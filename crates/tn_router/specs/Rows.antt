@@ -4,10 +4,12 @@ use Rattle.tn_base.specs.declared.message.Packet.{Packet}
 use Rattle.tn_base.specs.declared.port.Port.{Port}
 use Rattle.tn_base.specs.declared.port.Port.TheVariants as port
 use Rattle.tn_base.specs.Message.{has_packet}
+use Rattle.tn_node.specs.declared.facts.PartFacts.{PartFacts}
 use Rattle.tn_node.specs.declared.node.Node.{Node}
 use Rattle.tn_node.specs.declared.ports.Ports.{Ports}
 use Rattle.tn_node.specs.Deed.{Deed}
 use Rattle.tn_node.specs.Deed as deed
+use Rattle.tn_node.specs.Facts.{facts_of, if_own, if_still}
 use Rattle.tn_node.specs.NodeRows.{arrived, can_arrive, depart_row as node_departs, give_row, held_back, let_go, whitened}
 use Rattle.tn_node.specs.PortRows.{all_empty, at, with_at}
 use Rattle.tn_router.specs.declared.moves.Move.{Move}
@@ -122,14 +124,6 @@ accept_row plan side p s = if can_accept plan side p s && can_arrive s.node then
 abbrev pub is_still : RouterState → Bool
 is_still s = all_empty s.inputs && all_empty s.node.out
 
--- what a deed makes of a router, if the router can do it
-abbrev pub router_deed : RouterPlan → Deed → RouterState → Option RouterState
-router_deed plan (deed.Turn t n) s = None
-router_deed plan (deed.Deliver t) s = None
-router_deed plan (deed.Give way k) s = option_map (with_node s) (give_row way k s.node)
-router_deed plan (deed.Take side k) s = accept_row plan side k s
-router_deed plan deed.Route s = route_row plan s
-
 -- the detector's side: the router reported, was released, and was let go
 abbrev pub router_whitened : RouterState → RouterState
 router_whitened s = with_node s (whitened s.node)
@@ -139,3 +133,23 @@ released s = with_node s (held_back s.node)
 
 abbrev pub gone_on : RouterState → RouterState
 gone_on s = with_node s (let_go s.node)
+
+-- what the router tells the detector: it has no threads
+abbrev pub router_facts : RouterState → PartFacts
+router_facts s = facts_of s.node (is_still s) false true false
+
+-- what a deed makes of a router, if the router can do it
+abbrev pub router_deed : RouterPlan → Deed → RouterState → Option RouterState
+router_deed plan (deed.Turn t n) s = None
+router_deed plan (deed.Deliver t) s = None
+router_deed plan (deed.Give way k) s = option_map (with_node s) (give_row way k s.node)
+router_deed plan (deed.Take side k) s = accept_row plan side k s
+router_deed plan deed.Route s = route_row plan s
+router_deed plan (deed.HostPut k) s = None
+router_deed plan (deed.HostTake k) s = None
+router_deed plan (deed.Report i f) s = if_still (router_facts s) f (router_whitened s)
+router_deed plan deed.Begin s = None
+router_deed plan (deed.Confirm i f) s = if_own (router_facts s) f s
+router_deed plan deed.Announce s = None
+router_deed plan (deed.Release i f) s = if_own (router_facts s) f (released s)
+router_deed plan (deed.Go i f) s = if_own (router_facts s) f (gone_on s)

@@ -7,7 +7,7 @@ ghost use Rattle.tn_node.specs.NodeRows.{offered};
 ghost use Rattle.tn_node.specs.PortRows.{at};
 ghost use Rattle.tn_router.specs.Kept.{WellShaped, fresh_router};
 ghost use Rattle.tn_router.specs.RouterView.{now_by, with_now};
-ghost use Rattle.tn_router.specs.Rows.{accept_row, can_accept, depart_row, gone_on, happened, is_still, released, route_row, routed, router_whitened};
+ghost use Rattle.tn_router.specs.Rows.{accept_row, can_accept, depart_row, gone_on, happened, is_still, released, route_row, routed, router_facts, router_whitened};
 
 use crate::moves::Routed;
 use crate::plan::Plan;
@@ -19,6 +19,7 @@ use tn_base::message::Packet;
 use tn_base::port::Port;
 use tn_base::shape::Shape;
 use tn_keys::beat::Beat;
+use tn_node::facts::PartFacts;
 
 /// The router of a board: its plan, which no event changes, and its state.
 #[derive(Drop)]
@@ -184,6 +185,21 @@ impl Router {
         ensures { result ≡ self.now.now.node.counter }
     {
         self.state.node.counter
+    }
+
+    /// What the router tells the detector.
+    pub fn facts(&self) -> PartFacts
+        ensures { result ≡ router_facts self.now.now }
+    {
+        PartFacts {
+            still: self.still(),
+            black: self.black(),
+            counter: self.counter(),
+            live: false,
+            votes: true,
+            at_end: false,
+            value: 0,
+        }
     }
 
     /// The router has reported.

@@ -10,13 +10,16 @@ use Rattle.tn_base.specs.declared.port.Port.{Port}
 use Rattle.tn_base.specs.declared.port.Port.TheVariants as port
 use Rattle.tn_base.specs.Address.{has_thread, place_in_tile}
 use Rattle.tn_base.proofs.TilePlaces.{place_below}
+use Rattle.tn_node.specs.declared.facts.PartFacts.{PartFacts}
 use Rattle.tn_node.specs.declared.node.Node.{Node}
 use Rattle.tn_node.specs.declared.ports.Ports.{Ports}
 use Rattle.tn_node.specs.Deed.{Deed}
 use Rattle.tn_node.specs.Deed as deed
-use Rattle.tn_node.specs.NodeRows.{depart_row as node_departs, departed, departed_with, give_row, offered}
+use Rattle.tn_node.specs.Facts.{with_value}
+use Rattle.tn_node.specs.NodeRows.{depart_row as node_departs, departed, departed_with, give_row, held_back, offered}
 use Rattle.tn_node.specs.PortRows.{all_empty, at}
 use Rattle.tn_node.specs.SamePacket.{is_packet}
+use Rattle.tn_node.proofs.Agreed.{Own, own_given, own_taken, still_given, still_taken}
 use Rattle.tn_slots.specs.Pool.{queue_at}
 use Rattle.tn_slots.specs.Queues.{first_of}
 use Rattle.tn_thread.specs.declared.state.ThreadState.{ThreadState}
@@ -25,11 +28,11 @@ use Rattle.tn_thread.specs.declared.thread.Thread.{Thread}
 use Rattle.tn_thread.specs.Sight.{Sight}
 use Rattle.tn_thread.specs.Step.{runnable}
 use Rattle.tn_tile.specs.Kept.{IsFit}
-use Rattle.tn_tile.specs.Rows.{accept_row, can_count, deliver_row, delivered_from, depart_row, is_here, tile_deed, turn_row, with_node}
+use Rattle.tn_tile.specs.Rows.{accept_row, can_count, deliver_row, delivered_from, depart_row, gone_on, is_here, released, tile_deed, tile_facts, tile_whitened, turn_row, with_node}
 use Rattle.tn_tile.specs.Step.{acted, can_step, no_thread, pending_at, sight_at, step_at_place, stepped, steps_of, thread_at, with_thread}
 use Rattle.tn_tile.specs.Still.{does_nothing, is_nil, is_still}
 use Rattle.tn_tile.specs.TileView.{TilePlan, TileState}
-use Rattle.tn_tile.proofs.Known.{Came, accepted_fits, came_by, delivered_on, departed_is, departed_out}
+use Rattle.tn_tile.proofs.Known.{Came, accepted_fits, came_by, delivered_on, departed_is, departed_out, told_fits}
 use Rattle.tn_tile.proofs.Moved.{steps_fit}
 use Rattle.tn_tile.proofs.Packets.{PassedOn, delivered_fits, passed_on}
 use Rattle.tn_tile.proofs.Steps.{taken}
@@ -269,6 +272,59 @@ still_stops plan s still = record {
   departs = λ way. none_by (depart_row way s) (λ t e. opposite _ (depart_deed way s t e).active still);
 }
 
+-- what the detector's deeds make of a tile: the facts are the tile's own, and the tile becomes what the call of this name says
+pub record ReportDeed (f : PartFacts) (old new : TileState) : Type 0 where
+  pub facts : f ≡ with_value (tile_facts old) f
+  pub still : is_still old ≡ true
+  pub is : new ≡ tile_whitened old
+
+pub record ConfirmDeed (f : PartFacts) (old new : TileState) : Type 0 where
+  pub facts : f ≡ with_value (tile_facts old) f
+  pub is : new ≡ old
+
+pub record ReleaseDeed (f : PartFacts) (old new : TileState) : Type 0 where
+  pub facts : f ≡ with_value (tile_facts old) f
+  pub is : new ≡ released f.value old
+
+pub record GoDeed (f : PartFacts) (old new : TileState) : Type 0 where
+  pub facts : f ≡ with_value (tile_facts old) f
+  pub is : new ≡ gone_on old
+
+pub report_deed : (plan : TilePlan) (i : ℕ) (f : PartFacts) (s t : TileState) → tile_deed plan (deed.Report i f) s ≡ Some t → ReportDeed f s t
+report_deed plan i f s t e =
+    let o = still_taken (tile_facts s) f (tile_whitened s) t e in
+    record { facts = o.0.facts; still = o.1; is = sym o.0.is }
+
+pub confirm_deed : (plan : TilePlan) (i : ℕ) (f : PartFacts) (s t : TileState) → tile_deed plan (deed.Confirm i f) s ≡ Some t → ConfirmDeed f s t
+confirm_deed plan i f s t e =
+    let o : Own (tile_facts s) f s t = own_taken (tile_facts s) f s t e in
+    record { facts = o.facts; is = sym o.is }
+
+pub release_deed : (plan : TilePlan) (i : ℕ) (f : PartFacts) (s t : TileState) → tile_deed plan (deed.Release i f) s ≡ Some t → ReleaseDeed f s t
+release_deed plan i f s t e =
+    let o : Own (tile_facts s) f (released f.value s) t = own_taken (tile_facts s) f (released f.value s) t e in
+    record { facts = o.facts; is = sym o.is }
+
+pub go_deed : (plan : TilePlan) (i : ℕ) (f : PartFacts) (s t : TileState) → tile_deed plan (deed.Go i f) s ≡ Some t → GoDeed f s t
+go_deed plan i f s t e =
+    let o : Own (tile_facts s) f (gone_on s) t = own_taken (tile_facts s) f (gone_on s) t e in
+    record { facts = o.facts; is = sym o.is }
+
+-- a tile can do each of them with its own facts, whatever the detector's answer is; it reports only if it is still
+pub record TellsOwn (plan : TilePlan) (s : TileState) : Type 0 where
+  pub reports : (i value : ℕ) → is_still s ≡ true → tile_deed plan (deed.Report i (record (tile_facts s) { value = value })) s ≡ Some (tile_whitened s)
+  pub confirms : (i value : ℕ) → tile_deed plan (deed.Confirm i (record (tile_facts s) { value = value })) s ≡ Some s
+  pub releases : (i value : ℕ) → tile_deed plan (deed.Release i (record (tile_facts s) { value = value })) s ≡ Some (released value s)
+  pub goes : (i value : ℕ) → tile_deed plan (deed.Go i (record (tile_facts s) { value = value })) s ≡ Some (gone_on s)
+
+pub tells_own : (plan : TilePlan) (s : TileState) → TellsOwn plan s
+tells_own plan s = record {
+  reports = λ i value still. still_given (tile_facts s) value (tile_whitened s) still;
+  confirms = λ i value. own_given (tile_facts s) value s;
+  releases = λ i value. own_given (tile_facts s) value (released value s);
+  goes = λ i value. own_given (tile_facts s) value (gone_on s);
+}
+
 -- each event keeps what holds of every tile's state
 pub turn_fits : (plan : TilePlan) (a n : ℕ) (s t : TileState) → turn_row plan a n s ≡ Some t → IsFit plan s → IsFit plan t
 turn_fits plan a n s t e w =
@@ -287,6 +343,15 @@ depart_fits plan way s t e w =
 given_departs : (way : Port) (k : Packet) (n m : Node) → give_row way k n ≡ Some m → node_departs way n ≡ Some m
 given_departs way k n m e = (taken (is_packet k (offered way n)) (node_departs way n) m e).1
 
+report_fits : (plan : TilePlan) (s t : TileState) → t ≡ tile_whitened s → IsFit plan s → IsFit plan t
+report_fits plan s t is w = subst (IsFit plan) (sym is) (record { threads = w.threads; pool = w.pool; pending = w.pending; out = w.out })
+
+release_fits : (plan : TilePlan) (value : ℕ) (s t : TileState) → t ≡ released value s → IsFit plan s → IsFit plan t
+release_fits plan value s t is w = subst (IsFit plan) (sym is) (told_fits plan value (held_back s.node) s refl w)
+
+go_fits : (plan : TilePlan) (s t : TileState) → t ≡ gone_on s → IsFit plan s → IsFit plan t
+go_fits plan s t is w = subst (IsFit plan) (sym is) (record { threads = w.threads; pool = w.pool; pending = w.pending; out = w.out })
+
 pub deed_fits : (plan : TilePlan) (d : Deed) (s t : TileState) → tile_deed plan d s ≡ Some t → IsFit plan s → IsFit plan t
 deed_fits plan (deed.Turn a n) s t e w = turn_fits plan a.0 n s t e w
 deed_fits plan (deed.Deliver a) s t e w = deliver_fits plan a.0 s t e w
@@ -295,3 +360,11 @@ deed_fits plan (deed.Give way k) s t e w =
     depart_fits plan way s t (ap (λ o. option_map (with_node s) o) (given_departs way k s.node m.0 m.1) ∙ ap (λ (x : TileState). Some x) (sym m.2)) w
 deed_fits plan (deed.Take side k) s t e w = accepted_fits plan k s t e w
 deed_fits plan deed.Route s t e w = cc e
+deed_fits plan (deed.HostPut k) s t e w = cc e
+deed_fits plan (deed.HostTake k) s t e w = cc e
+deed_fits plan (deed.Report i f) s t e w = report_fits plan s t (report_deed plan i f s t e).is w
+deed_fits plan deed.Begin s t e w = cc e
+deed_fits plan (deed.Confirm i f) s t e w = subst (IsFit plan) (sym (confirm_deed plan i f s t e).is) w
+deed_fits plan deed.Announce s t e w = cc e
+deed_fits plan (deed.Release i f) s t e w = release_fits plan f.value s t (release_deed plan i f s t e).is w
+deed_fits plan (deed.Go i f) s t e w = go_fits plan s t (go_deed plan i f s t e).is w

@@ -1,20 +1,23 @@
 -- What each event makes of a tile, if the event is enabled: of its plan, which stays, and its state.
-use Rattle.std.specs.Prelude.{ℕ, ◌+◌, ◌^◌, ◌==◌, ◌&&◌, Bool, map, Option, Some, None, option_map, count_ones, nat_le, nat_lt, slice_index_or, slice_set, if◌then◌else◌}
+use Rattle.std.specs.Prelude.{ℕ, ◌+◌, ◌^◌, ◌==◌, ◌&&◌, Bool, false, map, Option, Some, None, option_map, count_ones, nat_le, nat_lt, slice_index_or, slice_set, if◌then◌else◌}
 use Rattle.tn_base.specs.declared.message.Packet.{Packet}
 use Rattle.tn_base.specs.declared.port.Port.{Port}
 use Rattle.tn_base.specs.declared.port.Port.TheVariants as port
 use Rattle.tn_base.specs.Address.{has_thread, place_in_tile, tile_of}
 use Rattle.tn_base.specs.Message.{has_packet}
 use Rattle.tn_base.specs.Ports.{tile_port}
+use Rattle.tn_node.specs.declared.facts.PartFacts.{PartFacts}
 use Rattle.tn_node.specs.declared.node.Node.{Node}
 use Rattle.tn_node.specs.Deed.{Deed}
 use Rattle.tn_node.specs.Deed as deed
+use Rattle.tn_node.specs.Facts.{facts_of, if_own, if_still}
 use Rattle.tn_node.specs.NodeRows.{arrived, can_arrive, depart_row as node_departs, give_row, held_back, let_go, waits, whitened}
 use Rattle.tn_slots.specs.Pool.{first_free, message_at, put_at}
 use Rattle.tn_thread.specs.declared.thread.Thread.{Thread}
 use Rattle.tn_thread.specs.Step.{answered, is_idle}
 use Rattle.tn_tile.specs.Receivers.{alive_of, dead_of, receivers}
 use Rattle.tn_tile.specs.Step.{pending_at, steps_of}
+use Rattle.tn_tile.specs.Still.{all_vote, has_live, is_still}
 use Rattle.tn_tile.specs.TileView.{TilePlan, TileState}
 use Rattle.tn_tile.specs.declared.sender.Sender.{Sender}
 
@@ -109,14 +112,6 @@ came s = with_node s (arrived s.node)
 abbrev pub accept_row : TilePlan → Packet → TileState → Option TileState
 accept_row plan p s = if can_count s && can_arrive s.node then option_map came (accepted plan p s) else None
 
--- what a deed makes of a tile, if the tile can do it
-abbrev pub tile_deed : TilePlan → Deed → TileState → Option TileState
-tile_deed plan (deed.Turn t n) s = turn_row plan t.0 n s
-tile_deed plan (deed.Deliver t) s = deliver_row plan t.0 s
-tile_deed plan (deed.Give way k) s = option_map (with_node s) (give_row way k s.node)
-tile_deed plan (deed.Take side k) s = accept_row plan k s
-tile_deed plan deed.Route s = None
-
 -- the detector's side: the tile reported, was released with an answer, and was let go
 abbrev pub tile_whitened : TileState → TileState
 tile_whitened s = with_node s (whitened s.node)
@@ -129,3 +124,23 @@ released value s = record s { node = held_back s.node; threads = map (told value
 
 abbrev pub gone_on : TileState → TileState
 gone_on s = with_node s (let_go s.node)
+
+-- what the tile tells the detector
+abbrev pub tile_facts : TileState → PartFacts
+tile_facts s = facts_of s.node (is_still s) (has_live s) (all_vote s) false
+
+-- what a deed makes of a tile, if the tile can do it
+abbrev pub tile_deed : TilePlan → Deed → TileState → Option TileState
+tile_deed plan (deed.Turn t n) s = turn_row plan t.0 n s
+tile_deed plan (deed.Deliver t) s = deliver_row plan t.0 s
+tile_deed plan (deed.Give way k) s = option_map (with_node s) (give_row way k s.node)
+tile_deed plan (deed.Take side k) s = accept_row plan k s
+tile_deed plan deed.Route s = None
+tile_deed plan (deed.HostPut k) s = None
+tile_deed plan (deed.HostTake k) s = None
+tile_deed plan (deed.Report i f) s = if_still (tile_facts s) f (tile_whitened s)
+tile_deed plan deed.Begin s = None
+tile_deed plan (deed.Confirm i f) s = if_own (tile_facts s) f s
+tile_deed plan deed.Announce s = None
+tile_deed plan (deed.Release i f) s = if_own (tile_facts s) f (released f.value s)
+tile_deed plan (deed.Go i f) s = if_own (tile_facts s) f (gone_on s)

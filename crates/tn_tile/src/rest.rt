@@ -3,12 +3,13 @@
 ghost use Rattle.std.specs.Prelude.{◌≡◌, ◌<◌, not};
 ghost use Rattle.std.specs.List.{list_all, list_any};
 ghost use Rattle.tn_tile.specs.Receivers.{is_dead};
-ghost use Rattle.tn_tile.specs.Rows.{gone_on, released, tile_whitened};
+ghost use Rattle.tn_tile.specs.Rows.{gone_on, released, tile_facts, tile_whitened};
 ghost use Rattle.tn_tile.specs.Still.{all_vote, does_nothing, has_live, is_nil, is_still, votes_for};
 ghost use Rattle.tn_tile.specs.TileView.{with_now};
 
 use crate::ready::all_ready;
 use crate::tile::Tile;
+use tn_node::facts::PartFacts;
 use tn_slots::pool::Pool;
 use tn_thread::state::ThreadState;
 use tn_thread::thread::Thread;
@@ -58,6 +59,21 @@ impl Tile {
         ensures { result ≡ self.now.now.node.counter }
     {
         self.state.node.counter
+    }
+
+    /// What the tile tells the detector.
+    pub fn facts(&self) -> PartFacts
+        ensures { result ≡ tile_facts self.now.now }
+    {
+        PartFacts {
+            still: self.still(),
+            black: self.black(),
+            counter: self.counter(),
+            live: self.live(),
+            votes: self.votes(),
+            at_end: false,
+            value: 0,
+        }
     }
 
     /// The tile has reported.

@@ -1,0 +1,3 @@
+pub mod HostView
+pub mod Rows
+pub mod Script
