@@ -1,0 +1,4 @@
+pub mod Detectors
+pub mod Hosts
+pub mod Routers
+pub mod Tiles

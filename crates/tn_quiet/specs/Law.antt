@@ -1,0 +1,26 @@
+-- The law of deeds.
+use Rattle.std.specs.Prelude.{ℕ, ◌≡◌, ◌↔◌, Some}
+use Rattle.tn_detect.specs.declared.state.DetectorState.{DetectorState}
+use Rattle.tn_host.specs.HostView.{HostState}
+use Rattle.tn_host.specs.Rows.{host_deed}
+use Rattle.tn_node.specs.Deed.{Deed}
+use Rattle.tn_router.specs.declared.state.RouterState.{RouterState}
+use Rattle.tn_router.specs.Rows.{router_deed}
+use Rattle.tn_router.specs.RouterView.{RouterPlan}
+use Rattle.tn_tile.specs.Rows.{tile_deed}
+use Rattle.tn_tile.specs.declared.state.TileState.{TileState}
+use Rattle.tn_tile.specs.TileView.{TilePlan}
+use Rattle.tn_quiet.specs.DetectorDeed.{DetectorDoes, detector_deed}
+use Rattle.tn_quiet.specs.Shows.{DoesDeed, host_shows, router_shows, tile_shows}
+
+abbrev pub TilesDo : Type 0
+TilesDo = (plan : TilePlan) (d : Deed) (s t : TileState) → tile_deed plan d s ≡ Some t → DoesDeed d (tile_shows s) (tile_shows t)
+
+abbrev pub RoutersDo : Type 0
+RoutersDo = (plan : RouterPlan) (d : Deed) (s t : RouterState) → router_deed plan d s ≡ Some t → DoesDeed d (router_shows s) (router_shows t)
+
+abbrev pub HostsDo : Type 0
+HostsDo = (d : Deed) (s t : HostState) → host_deed d s ≡ Some t → DoesDeed d (host_shows s) (host_shows t)
+
+abbrev pub DetectorsDo : Type 0
+DetectorsDo = (n : ℕ) (d : Deed) (s t : DetectorState) → (detector_deed n d s ≡ Some t) ↔ DetectorDoes n d s t

@@ -1,0 +1,3 @@
+pub mod DetectorDeed
+pub mod Law
+pub mod Shows
