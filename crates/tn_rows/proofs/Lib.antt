@@ -1,2 +1,3 @@
+pub mod HostLinks
 pub mod Meeting
 pub mod Neighbours

@@ -4,11 +4,14 @@ use Rattle.tn_base.specs.declared.event.Event.{Event}
 use Rattle.tn_base.specs.declared.event.Event.TheVariants as event
 use Rattle.tn_base.specs.declared.ids.PartId.{PartId}
 use Rattle.tn_base.specs.declared.message.Packet.{Packet}
+use Rattle.tn_host.specs.HostView.{HostState}
+use Rattle.tn_host.specs.Rows.{can_depart as can_put_at, departed as host_departed, offered as host_offers, take_row, took}
+use Rattle.tn_host.proofs.Puts.{put_given}
 use Rattle.tn_link.specs.LinkRows.{first_in, front_of, put_in, rest_in, take_from}
 use Rattle.tn_link.specs.LinkView.{LinkView}
 use Rattle.tn_stamp.specs.declared.entry.Crossing.{Crossing}
 use Rattle.tn_stamp.specs.declared.entry.Crossing.TheVariants as crossing
-use Rattle.tn_node.specs.NodeRows.{departed_with, offered}
+use Rattle.tn_node.specs.NodeRows.{can_arrive as can_arrive_at, departed_with, offered}
 use Rattle.tn_node.proofs.Given.{given, gives}
 use Rattle.tn_tile.specs.Rows.{accept_row, depart_row, with_node}
 use Rattle.tn_tile.specs.declared.state.TileState.{TileState}
@@ -17,7 +20,7 @@ use Rattle.tn_router.specs.declared.state.RouterState.{RouterState}
 use Rattle.tn_router.specs.RouterView.{RouterView, now_by as router_now_by}
 use Rattle.tn_router.specs.Rows.{accept_row as router_accepts, depart_row as router_departs, with_node as router_with_node}
 use Rattle.tn_rows.specs.Events.{Met, after, crossing_of, given_to, meets, met_by, met_with}
-use Rattle.tn_rows.specs.PartView.{PartView, TileV, RouterV, LinkV}
+use Rattle.tn_rows.specs.PartView.{PartView, TileV, RouterV, LinkV, HostV}
 use Rattle.tn_rows.specs.Places.{link_side, link_way}
 
 -- ---- rows of both parts
@@ -190,3 +193,65 @@ router_can_arrive l p v x k e = can_arrive_by l p (RouterV v) x k e ∙ some_rou
 
 pub router_cannot_arrive : (l p : PartId) (v : RouterView) (x : LinkView) (k : Packet) → front_of x ≡ Some k → is_some (router_accepts v.plan (link_side v.plan.shape l.0) k v.now) ≡ false → meets (event.Arrive l p) (RouterV v) (LinkV x) ≡ None
 router_cannot_arrive l p v x k e not = none_is (meets (event.Arrive l p) (RouterV v) (LinkV x)) (router_can_arrive l p v x k e ∙ not)
+
+-- ---- the host puts a packet
+
+host_row_is : (s : HostState) (k : Packet) → host_offers s ≡ Some k → after event.HostPut (crossing.Packet k) (HostV s) ≡ option_map HostV (cond (can_put_at s.node) (Some (host_departed s)) None)
+host_row_is s k e = ap (λ o. option_map HostV o) (put_given k s e)
+
+host_meets : (s : HostState) (x : LinkView) (k : Packet) → host_offers s ≡ Some k →
+    meets event.HostPut (HostV s) (LinkV x) ≡ met_by (option_map HostV (cond (can_put_at s.node) (Some (host_departed s)) None)) (option_map LinkV (put_in k x))
+host_meets s x k e =
+    ap (λ o. met_with event.HostPut (HostV s) (LinkV x) (option_map crossing.Packet o)) e
+    ∙ ap (λ o. met_by o (option_map LinkV (put_in k x))) (host_row_is s k e)
+
+-- it happens
+pub puts : (s : HostState) (x y : LinkView) (k : Packet) → host_offers s ≡ Some k → can_put_at s.node ≡ true → put_in k x ≡ Some y →
+    meets event.HostPut (HostV s) (LinkV x) ≡ Some (record { low = HostV (host_departed s); high = LinkV y })
+puts s x y k e counts put =
+    host_meets s x k e
+    ∙ ap (λ b. met_by (option_map HostV (cond b (Some (host_departed s)) None)) (option_map LinkV (put_in k x))) counts
+    ∙ ap (λ o. met_by (Some (HostV (host_departed s))) (option_map LinkV o)) put
+
+-- it can happen if the host offers a packet that can be counted, and the link has room
+can_put_by : (s : HostState) (x : LinkView) (o : Option Packet) → host_offers s ≡ o →
+    is_some (meets event.HostPut (HostV s) (LinkV x)) ≡ (is_some o && can_put_at s.node && ltb (length x.packets) x.capacity)
+can_put_by s x None e = ap (λ (o : Option Packet). is_some (met_with event.HostPut (HostV s) (LinkV x) (option_map crossing.Packet o))) e
+can_put_by s x (Some k) e =
+    ap (λ (m : Option Met). is_some m) (host_meets s x k e)
+    ∙ some_met (option_map HostV (cond (can_put_at s.node) (Some (host_departed s)) None)) (option_map LinkV (put_in k x))
+    ∙ ap (λ b. b && is_some (option_map LinkV (put_in k x))) (some_mapped HostV (cond (can_put_at s.node) (Some (host_departed s)) None) ∙ if_some (can_put_at s.node) (host_departed s))
+    ∙ ap (λ b. can_put_at s.node && b) (some_mapped LinkV (put_in k x) ∙ if_some (ltb (length x.packets) x.capacity) _)
+
+pub can_put : (s : HostState) (x : LinkView) →
+    is_some (meets event.HostPut (HostV s) (LinkV x)) ≡ (is_some (host_offers s) && can_put_at s.node && ltb (length x.packets) x.capacity)
+can_put s x = can_put_by s x (host_offers s) refl
+
+-- ---- the host takes a packet
+
+take_meets : (s : HostState) (x : LinkView) (k : Packet) → front_of x ≡ Some k →
+    meets event.HostTake (HostV s) (LinkV x) ≡ met_by (option_map HostV (take_row k s)) (option_map LinkV (take_from x))
+take_meets s x k e =
+    ap (λ o. met_with event.HostTake (HostV s) (LinkV x) (option_map crossing.Packet o)) e
+    ∙ ap (λ o. met_by (option_map HostV (take_row k s)) (option_map LinkV o)) (gives (front_of x) k (take_from x) e)
+
+-- it happens
+pub takes : (s : HostState) (x y : LinkView) (k : Packet) → front_of x ≡ Some k → can_arrive_at s.node ≡ true → take_from x ≡ Some y →
+    meets event.HostTake (HostV s) (LinkV x) ≡ Some (record { low = HostV (took k s); high = LinkV y })
+takes s x y k e counts taken =
+    take_meets s x k e
+    ∙ ap (λ b. met_by (option_map HostV (cond b (Some (took k s)) None)) (option_map LinkV (take_from x))) counts
+    ∙ ap (λ o. met_by (Some (HostV (took k s))) (option_map LinkV o)) taken
+
+-- it can happen if the link has a packet, which can be counted
+can_take_by : (s : HostState) (x : LinkView) (o : Option Packet) → front_of x ≡ o → is_some (meets event.HostTake (HostV s) (LinkV x)) ≡ (is_some o && can_arrive_at s.node)
+can_take_by s x None e = ap (λ (o : Option Packet). is_some (met_with event.HostTake (HostV s) (LinkV x) (option_map crossing.Packet o))) e
+can_take_by s x (Some k) e =
+    ap (λ (m : Option Met). is_some m) (take_meets s x k e)
+    ∙ some_met (option_map HostV (take_row k s)) (option_map LinkV (take_from x))
+    ∙ ap (λ b. b && is_some (option_map LinkV (take_from x))) (some_mapped HostV (take_row k s) ∙ if_some (can_arrive_at s.node) (took k s))
+    ∙ ap (λ b. can_arrive_at s.node && b) (some_mapped LinkV (take_from x) ∙ rest_some x.packets k x.capacity e)
+    ∙ and_true (can_arrive_at s.node)
+
+pub can_take : (s : HostState) (x : LinkView) → is_some (meets event.HostTake (HostV s) (LinkV x)) ≡ (is_some (front_of x) && can_arrive_at s.node)
+can_take s x = can_take_by s x (front_of x) refl

@@ -8,13 +8,15 @@ use Rattle.tn_base.specs.declared.part.Kind.{Kind}
 use Rattle.tn_base.specs.declared.part.Kind.TheVariants as kind
 use Rattle.tn_base.specs.declared.shape.ShapeNumbers.{ShapeNumbers}
 use Rattle.tn_base.specs.Parts.{kind_of, part_count}
+use Rattle.tn_host.specs.HostView.{HostState}
+use Rattle.tn_host.specs.Rows.{host_deed, offered as host_offers}
 use Rattle.tn_link.specs.LinkRows.{front_of, put_in, take_from}
 use Rattle.tn_link.specs.LinkView.{LinkView}
 use Rattle.tn_node.specs.Deed.{Deed}
 use Rattle.tn_node.specs.Deed as deed
 use Rattle.tn_node.specs.NodeRows.{offered}
 use Rattle.tn_node.specs.SamePacket.{is_packet}
-use Rattle.tn_rows.specs.PartView.{PartView, TileV, RouterV, LinkV, AbsentV}
+use Rattle.tn_rows.specs.PartView.{PartView, TileV, RouterV, LinkV, HostV, AbsentV}
 use Rattle.tn_rows.specs.Places.{Places, Nowhere, One, Two, link_side, link_way, places}
 use Rattle.tn_rows.specs.WorldView.{WorldView}
 use Rattle.tn_router.specs.RouterView.{RouterPlan, RouterView, now_by as router_now_by}
@@ -27,16 +29,23 @@ use Rattle.tn_tile.specs.Rows.{tile_deed}
 use Rattle.tn_tile.specs.declared.state.TileState.{TileState}
 use Rattle.tn_tile.specs.TileView.{TilePlan, TileView, now_by}
 
--- the deed of a tile or router in an event with this crossing: here alone a part's ports are found from the number of a link
+-- the deed of a part in an event with this crossing, if no link is named
+abbrev pub plain_deed : Event → Crossing → Option Deed
+plain_deed (event.Turn t k) crossing.None = Some (deed.Turn t k)
+plain_deed (event.Deliver t) crossing.None = Some (deed.Deliver t)
+plain_deed (event.Route p) crossing.None = Some deed.Route
+plain_deed event.HostPut (crossing.Packet k) = Some (deed.HostPut k)
+plain_deed event.HostTake (crossing.Packet k) = Some (deed.HostTake k)
+plain_deed e c = None
+
+-- the deed of a tile or router in an event with this crossing. Here and in `given_to` alone a part's ports are found from the number
+-- of a link
 abbrev pub deed_of : ShapeNumbers → Event → Crossing → Option Deed
-deed_of n (event.Turn t k) crossing.None = Some (deed.Turn t k)
-deed_of n (event.Deliver t) crossing.None = Some (deed.Deliver t)
 deed_of n (event.Depart p l) (crossing.Packet k) = Some (deed.Give (link_way n l.0) k)
 deed_of n (event.Arrive l p) (crossing.Packet k) = Some (deed.Take (link_side n l.0) k)
-deed_of n (event.Route p) crossing.None = Some deed.Route
-deed_of n e c = None
+deed_of n e c = plain_deed e c
 
--- a tile's state after a deed, if there is a deed and the tile can do it; and a router's
+-- a tile's state after a deed, if there is a deed and the tile can do it; a router's and the host's
 abbrev pub tile_did : TilePlan → TileState → Option Deed → Option TileState
 tile_did plan s None = None
 tile_did plan s (Some d) = tile_deed plan d s
@@ -45,17 +54,26 @@ abbrev pub router_did : RouterPlan → RouterState → Option Deed → Option Ro
 router_did plan s None = None
 router_did plan s (Some d) = router_deed plan d s
 
--- a tile after its side of an event, and a router. No event changes a plan
+abbrev pub host_did : HostState → Option Deed → Option HostState
+host_did s None = None
+host_did s (Some d) = host_deed d s
+
+-- a tile after its side of an event, a router, and the host. No event changes a plan
 abbrev pub tile_row : Event → Crossing → TileView → Option TileView
 tile_row e c v = now_by v (tile_did v.plan v.now (deed_of v.plan.shape e c))
 
 abbrev pub router_row : Event → Crossing → RouterView → Option RouterView
 router_row e c v = router_now_by v (router_did v.plan v.now (deed_of v.plan.shape e c))
 
+abbrev pub host_row : Event → Crossing → HostState → Option HostState
+host_row e c s = host_did s (plain_deed e c)
+
 -- a link after its side. It takes any packet where there is room, and gives the first one
 abbrev pub link_row : Event → Crossing → LinkView → Option LinkView
 link_row (event.Depart p l) (crossing.Packet k) v = put_in k v
 link_row (event.Arrive l p) (crossing.Packet k) v = if is_packet k (front_of v) then take_from v else None
+link_row event.HostPut (crossing.Packet k) v = put_in k v
+link_row event.HostTake (crossing.Packet k) v = if is_packet k (front_of v) then take_from v else None
 link_row e c v = None
 
 -- a part after its side of an event with this crossing, where that side may be
@@ -63,6 +81,7 @@ abbrev pub after : Event → Crossing → PartView → Option PartView
 after e c (TileV v) = option_map TileV (tile_row e c v)
 after e c (RouterV v) = option_map RouterV (router_row e c v)
 after e c (LinkV v) = option_map LinkV (link_row e c v)
+after e c (HostV s) = option_map HostV (host_row e c s)
 after e c AbsentV = None
 
 -- a part after the entries of its journal, each by its row
@@ -75,19 +94,31 @@ abbrev pub given_to : ℕ → PartView → Option Packet
 given_to l (TileV v) = offered (link_way v.plan.shape l) v.now.node
 given_to l (RouterV v) = offered (link_way v.plan.shape l) v.now.node
 given_to l (LinkV v) = None
+given_to l (HostV s) = None
 given_to l AbsentV = None
+
+-- the packet that the host puts on its link
+abbrev pub put_by : PartView → Option Packet
+put_by (TileV v) = None
+put_by (RouterV v) = None
+put_by (LinkV v) = None
+put_by (HostV s) = host_offers s
+put_by AbsentV = None
 
 -- the packet that a link gives
 abbrev pub carried : PartView → Option Packet
 carried (TileV v) = None
 carried (RouterV v) = None
 carried (LinkV v) = front_of v
+carried (HostV s) = None
 carried AbsentV = None
 
 -- what passes in an event on two parts, if anything does: the giver says it
 abbrev pub crossing_of : Event → PartView → PartView → Option Crossing
 crossing_of (event.Depart p l) low high = option_map crossing.Packet (given_to l.0 low)
 crossing_of (event.Arrive l p) low high = option_map crossing.Packet (carried high)
+crossing_of event.HostPut low high = option_map crossing.Packet (put_by low)
+crossing_of event.HostTake low high = option_map crossing.Packet (carried high)
 crossing_of e low high = None
 
 -- what two parts are after an event on both
@@ -138,19 +169,28 @@ abbrev pub FitsKind : ShapeNumbers → Kind → PartView → Type 0
 FitsKind n (kind.Tile tile) (TileV v) = (v.plan.shape ≡ n) × (v.plan.tile ≡ tile.0)
 FitsKind n (kind.Tile tile) (RouterV v) = ⊥
 FitsKind n (kind.Tile tile) (LinkV v) = ⊥
+FitsKind n (kind.Tile tile) (HostV s) = ⊥
 FitsKind n (kind.Tile tile) AbsentV = ⊥
 FitsKind n (kind.Router board) (TileV v) = ⊥
 FitsKind n (kind.Router board) (RouterV v) = (v.plan.shape ≡ n) × (v.plan.board ≡ board)
 FitsKind n (kind.Router board) (LinkV v) = ⊥
+FitsKind n (kind.Router board) (HostV s) = ⊥
 FitsKind n (kind.Router board) AbsentV = ⊥
 FitsKind n (kind.Link from onto) (TileV v) = ⊥
 FitsKind n (kind.Link from onto) (RouterV v) = ⊥
 FitsKind n (kind.Link from onto) (LinkV v) = v.capacity ≡ n.link
+FitsKind n (kind.Link from onto) (HostV s) = ⊥
 FitsKind n (kind.Link from onto) AbsentV = ⊥
-FitsKind n _ (TileV v) = ⊥
-FitsKind n _ (RouterV v) = ⊥
-FitsKind n _ (LinkV v) = ⊥
-FitsKind n _ AbsentV = Unit {0}
+FitsKind n kind.Host (TileV v) = ⊥
+FitsKind n kind.Host (RouterV v) = ⊥
+FitsKind n kind.Host (LinkV v) = ⊥
+FitsKind n kind.Host (HostV s) = Unit {0}
+FitsKind n kind.Host AbsentV = ⊥
+FitsKind n kind.Detector (TileV v) = ⊥
+FitsKind n kind.Detector (RouterV v) = ⊥
+FitsKind n kind.Detector (LinkV v) = ⊥
+FitsKind n kind.Detector (HostV s) = ⊥
+FitsKind n kind.Detector AbsentV = Unit {0}
 
 -- a machine has one part for each part of its shape, and each is what the shape names there
 pub record IsWorld (w : WorldView) : Type 0 where

@@ -47,6 +47,10 @@ arrivals n = flat_map (arrivals_from n) (range_with_len 0 (part_count n))
 abbrev pub routings : ShapeNumbers → List Event
 routings n = flat_map (λ p. event_if (is_router (kind_of n p)) (event.Route (part_id p))) (range_with_len 0 (part_count n))
 
+-- the host's events: it puts a message on its link, and it takes a packet from its link
+abbrev pub of_host : List Event
+of_host = event.HostPut ∷ event.HostTake ∷ []
+
 -- the events that can be enabled, in their order
 abbrev pub listed : ShapeNumbers → List Event
-listed n = turns n ++ deliveries n ++ departures n ++ arrivals n ++ routings n
+listed n = turns n ++ deliveries n ++ departures n ++ arrivals n ++ routings n ++ of_host
