@@ -1,5 +1,8 @@
--- The law of deeds.
+-- The laws of deeds and of machines.
 use Rattle.std.specs.Prelude.{ℕ, ◌≡◌, ◌↔◌, Some}
+use Rattle.tn_base.specs.declared.event.Event.{Event}
+use Rattle.tn_base.specs.Parts.{visited}
+use Rattle.tn_base.specs.Shape.{WithinLimits}
 use Rattle.tn_detect.specs.declared.state.DetectorState.{DetectorState}
 use Rattle.tn_host.specs.HostView.{HostState}
 use Rattle.tn_host.specs.Rows.{host_deed}
@@ -7,10 +10,15 @@ use Rattle.tn_node.specs.Deed.{Deed}
 use Rattle.tn_router.specs.declared.state.RouterState.{RouterState}
 use Rattle.tn_router.specs.Rows.{router_deed}
 use Rattle.tn_router.specs.RouterView.{RouterPlan}
+use Rattle.tn_rest.specs.Happens.{RestEvent}
+use Rattle.tn_rest.specs.Seen.{Steps}
+use Rattle.tn_rows.specs.Events.{IsWorld, happened}
+use Rattle.tn_rows.specs.WorldView.{WorldView}
 use Rattle.tn_tile.specs.Rows.{tile_deed}
 use Rattle.tn_tile.specs.declared.state.TileState.{TileState}
 use Rattle.tn_tile.specs.TileView.{TilePlan}
 use Rattle.tn_quiet.specs.DetectorDeed.{DetectorDoes, detector_deed}
+use Rattle.tn_quiet.specs.Machine.{as_rest, link_count, shown}
 use Rattle.tn_quiet.specs.Shows.{DoesDeed, host_shows, router_shows, tile_shows}
 
 abbrev pub TilesDo : Type 0
@@ -24,3 +32,12 @@ HostsDo = (d : Deed) (s t : HostState) → host_deed d s ≡ Some t → DoesDeed
 
 abbrev pub DetectorsDo : Type 0
 DetectorsDo = (n : ℕ) (d : Deed) (s t : DetectorState) → (detector_deed n d s ≡ Some t) ↔ DetectorDoes n d s t
+
+-- each event of a machine does to what its parts show what the event of the laws does
+pub record IsStep (e : Event) (old new : WorldView) : Type 0 where
+  pub event : RestEvent
+  pub is : as_rest old.shape e ≡ Some event
+  pub steps : Steps (visited old.shape) (link_count old.shape) event (shown old) (shown new)
+
+abbrev pub MachinesStep : Type 0
+MachinesStep = (e : Event) (old new : WorldView) → WithinLimits old.shape → IsWorld old → happened e old ≡ Some new → IsStep e old new

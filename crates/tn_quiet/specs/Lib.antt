@@ -1,3 +1,4 @@
 pub mod DetectorDeed
 pub mod Law
+pub mod Machine
 pub mod Shows

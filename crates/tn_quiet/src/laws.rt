@@ -1,6 +1,6 @@
-//! The law of deeds. A law answers nothing: its contract is what it says.
+//! Laws of deeds and of machines. A law answers nothing: its contract is what it says.
 
-ghost use Rattle.tn_quiet.specs.Law.{DetectorsDo, HostsDo, RoutersDo, TilesDo};
+ghost use Rattle.tn_quiet.specs.Law.{DetectorsDo, HostsDo, MachinesStep, RoutersDo, TilesDo};
 
 /// What a tile, a router and the host do in an event is what the laws of rest ask of it, and so is the detector's side.
 pub fn law_deeds()
@@ -8,4 +8,9 @@ pub fn law_deeds()
     ensures routers { RoutersDo }
     ensures hosts { HostsDo }
     ensures detectors { DetectorsDo }
+{}
+
+/// Each event of a machine is an event of the laws of rest, on what the machine's parts show.
+pub fn law_machines()
+    ensures { MachinesStep }
 {}
