@@ -11,8 +11,8 @@ use Rattle.tn_node.specs.declared.facts.PartFacts.{PartFacts}
 use Rattle.tn_node.specs.Deed.{Deed}
 use Rattle.tn_node.specs.Deed as deed
 use Rattle.tn_tile.proofs.Steps.{taken}
-use Rattle.tn_quiet.specs.DetectorDeed.{DetectorDoes, answers, confirms, detector_deed, lets_go, releases}
-use Rattle.tn_quiet.specs.Shows.{view_of}
+use Rattle.tn_rows.specs.DetectorDeed.{DetectorDoes, answers, confirms, detector_deed, lets_go, releases}
+use Rattle.tn_rows.specs.DetectorDeed.{view_of}
 
 is_confirming : (i : ℕ) (p : Phase) → confirms i p ≡ true → p ≡ phase.Confirm i
 is_confirming i phase.Collect h = cc

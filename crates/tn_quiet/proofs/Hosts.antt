@@ -14,7 +14,8 @@ use Rattle.tn_node.specs.Deed as deed
 use Rattle.tn_node.specs.SamePacket.{is_packet}
 use Rattle.tn_rest.specs.RestView.{Gets, Sends, Turns, Whitens}
 use Rattle.tn_tile.proofs.Steps.{taken}
-use Rattle.tn_quiet.specs.Shows.{DoesDeed, host_shows, view_of}
+use Rattle.tn_rows.specs.DetectorDeed.{view_of}
+use Rattle.tn_quiet.specs.Shows.{DoesDeed, host_shows}
 
 -- a host that offers a packet is not held, and its next item is a message
 offers_of : (k : Packet) (held : Bool) (number : ℕ) (o : Option ScriptItem) → is_packet k (cond held None (packet_of number o)) ≡ true → (held ≡ false) × (is_no_send o ≡ false)

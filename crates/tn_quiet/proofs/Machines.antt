@@ -1,7 +1,7 @@
 -- Each event of a machine is an event of the laws of rest, on what the machine's parts show.
 use Rattle.std.proofs.Common.{ℕ, ◌≡◌, ◌≢◌, ◌≤◌, ◌<◌, ◌+◌, ◌-◌, refl, sym, ap, subst, ◌∙◌, arith, inl, inr, Bool, true, false, Option, Some, None, option_map, slice_get, get_or, unwrap_or, List}
 use Rattle.std.specs.Prelude.{nat_lt, option_and_then, ◌⊎◌}
-use Rattle.std.proofs.lemmas.Bool.{cases_eq, cases_lt, eqb-true}
+use Rattle.std.proofs.lemmas.Bool.{cases_eq, cases_lt, eqb-true, ltb-true}
 use Rattle.std.proofs.lemmas.Option.{slice_get_within, unwrap_or-slice_get}
 use Rattle.tn_base.specs.declared.event.Event.{Event}
 use Rattle.tn_base.specs.declared.event.Event.TheVariants as event
@@ -15,13 +15,17 @@ use Rattle.tn_base.specs.Parts.{JoinsVisited, kind_of, part_count, router_part, 
 use Rattle.tn_base.specs.Shape.{WithinLimits}
 use Rattle.tn_base.proofs.LinkEnds.{joins_visited}
 use Rattle.tn_base.proofs.TilePlaces.{fields, tile_found}
+use Rattle.tn_detect.specs.declared.phase.Phase.TheVariants as phase
+use Rattle.tn_detect.specs.declared.state.DetectorState.{DetectorState}
+use Rattle.tn_detect.specs.Rows.{announce_row, begin_row, confirm_row, go_row, release_row, report_row}
 use Rattle.tn_rest.specs.declared.facts.Facts.{Facts}
-use Rattle.tn_rest.specs.Happens.{Arrive, Depart, Work}
-use Rattle.tn_rest.specs.RestView.{Gets, Sends, Works}
-use Rattle.tn_rest.specs.Seen.{Becomes, Link, OnlyAt, PartSteps, SeenPart, Steps}
+use Rattle.tn_rows.specs.DetectorDeed.{view_of}
+use Rattle.tn_rest.specs.Happens.{Announce, Arrive, Begin, Confirm, Depart, Go, Release, Report, Work}
+use Rattle.tn_rest.specs.RestView.{Gets, Sends, Turns, Whitens, Works}
+use Rattle.tn_rest.specs.Seen.{Becomes, Detector, DetectorSteps, Link, OnlyAt, PartSteps, SeenPart, Steps, Visited}
 use Rattle.tn_rest.proofs.RowsTell.{taken}
 use Rattle.tn_rows.specs.Events.{FitsKind, IsWorld, Met, after, happened, happened_at, meets, meets_at, with_both, with_part}
-use Rattle.tn_rows.specs.PartView.{PartView, TileV, RouterV, LinkV, HostV, AbsentV}
+use Rattle.tn_rows.specs.PartView.{PartView, TileV, RouterV, LinkV, HostV, DetectorV, AbsentV}
 use Rattle.tn_rows.specs.Places.{One, Two, at_part, detector_part, is_router, leads_from, leads_to, one_if, part_of, two_if}
 use Rattle.tn_rows.specs.WorldView.{WorldView}
 use Rattle.tn_rows.proofs.HostLinks.{link_from_host, link_to_host}
@@ -31,7 +35,7 @@ use Rattle.tn_quiet.specs.Law.{IsStep}
 use Rattle.tn_quiet.specs.Machine.{link_count, link_number, shown, shows}
 use Rattle.tn_quiet.proofs.Lists.{both_only, high_becomes, low_becomes, one_becomes, one_only}
 use Rattle.tn_quiet.proofs.PartKinds.{IsBehind, IsVisited, behind_kind, detector_last, visited_kind}
-use Rattle.tn_quiet.proofs.Parts.{Did, Emptier, Fuller, IsLink, NoLink, arrive_emptier, deliver_did, depart_fuller, give_did, host_put_did, host_take_did, no_announce, no_begin, put_fuller_link, route_did, take_did, take_emptier_link, turn_did}
+use Rattle.tn_quiet.proofs.Parts.{Did, Emptier, Fuller, IsDetectorPart, IsLink, IsVisitedPart, announce_did, arrive_emptier, begin_did, confirm_detector, confirm_part, deliver_did, depart_fuller, give_did, go_detector, go_part, host_put_did, host_take_did, put_fuller_link, release_detector, release_part, report_detector, report_part, route_did, take_did, take_emptier_link, turn_did}
 use Rattle.tn_quiet.proofs.Tiles.{kept_by}
 
 -- ---- an event on one part, and on two
@@ -74,16 +78,25 @@ fits_at w p x made e =
     let is : get_or w.parts p AbsentV ≡ x = sym (unwrap_or-slice_get w.parts p AbsentV) ∙ ap (λ o. unwrap_or o AbsentV) e in
     subst (FitsKind w.shape (kind_of w.shape p)) is (made.each p (omega arith))
 
-visited_no_link : (n : ShapeNumbers) (k : Kind) (x : PartView) → FitsKind n k x → IsVisited k → NoLink x
-visited_no_link n k (TileV v) f i = tt
-visited_no_link n k (RouterV v) f i = tt
-visited_no_link n k (HostV s) f i = tt
-visited_no_link n k AbsentV f i = tt
-visited_no_link n (kind.Tile a) (LinkV v) f i = absurd f
-visited_no_link n (kind.Router b) (LinkV v) f i = absurd f
-visited_no_link n kind.Host (LinkV v) f i = absurd f
-visited_no_link n (kind.Link a b) (LinkV v) f i = absurd i
-visited_no_link n kind.Detector (LinkV v) f i = absurd i
+visited_is_visited : (n : ShapeNumbers) (k : Kind) (x : PartView) → FitsKind n k x → IsVisited k → IsVisitedPart x
+visited_is_visited n k (TileV v) f i = tt
+visited_is_visited n k (RouterV v) f i = tt
+visited_is_visited n k (HostV s) f i = tt
+visited_is_visited n (kind.Tile a) (LinkV v) f i = absurd f
+visited_is_visited n (kind.Router b) (LinkV v) f i = absurd f
+visited_is_visited n kind.Host (LinkV v) f i = absurd f
+visited_is_visited n (kind.Link a b) (LinkV v) f i = absurd i
+visited_is_visited n kind.Detector (LinkV v) f i = absurd i
+visited_is_visited n (kind.Tile a) (DetectorV v) f i = absurd f
+visited_is_visited n (kind.Router b) (DetectorV v) f i = absurd f
+visited_is_visited n kind.Host (DetectorV v) f i = absurd f
+visited_is_visited n (kind.Link a b) (DetectorV v) f i = absurd i
+visited_is_visited n kind.Detector (DetectorV v) f i = absurd i
+visited_is_visited n (kind.Tile a) AbsentV f i = absurd f
+visited_is_visited n (kind.Router b) AbsentV f i = absurd f
+visited_is_visited n kind.Host AbsentV f i = absurd f
+visited_is_visited n (kind.Link a b) AbsentV f i = absurd i
+visited_is_visited n kind.Detector AbsentV f i = absurd i
 
 abbrev IsLinkKind : Kind → Type 0
 IsLinkKind (kind.Tile a) = ⊥
@@ -101,6 +114,7 @@ link_is_link n (kind.Link a b) (TileV v) f i = absurd f
 link_is_link n (kind.Link a b) (RouterV v) f i = absurd f
 link_is_link n (kind.Link a b) (LinkV v) f i = tt
 link_is_link n (kind.Link a b) (HostV s) f i = absurd f
+link_is_link n (kind.Link a b) (DetectorV v) f i = absurd f
 link_is_link n (kind.Link a b) AbsentV f i = absurd f
 
 -- ---- the places of an event
@@ -228,8 +242,8 @@ by_tests : (e : Event) (w new : WorldView) (b : Bool) (p q : ℕ) → happened_a
 by_tests e w new false p q h = cc h
 by_tests e w new true p q h = (refl, at_two e w new p q h)
 
-low_fits : (e : Event) (w new : WorldView) (p l : ℕ) → IsWorld w → Joined w.shape p l → (a : AtTwo e w new p l) → NoLink a.low
-low_fits e w new p l made j a = visited_no_link w.shape (kind_of w.shape p) a.low (fits_at w p a.low made a.low_was) (visited_kind w.shape p j.inside)
+low_fits : (e : Event) (w new : WorldView) (p l : ℕ) → IsWorld w → Joined w.shape p l → (a : AtTwo e w new p l) → IsVisitedPart a.low
+low_fits e w new p l made j a = visited_is_visited w.shape (kind_of w.shape p) a.low (fits_at w p a.low made a.low_was) (visited_kind w.shape p j.inside)
 
 high_fits : (e : Event) (w new : WorldView) (p l : ℕ) → IsWorld w → Joined w.shape p l → (a : AtTwo e w new p l) → IsLink a.high
 high_fits e w new p l made j a = link_is_link w.shape (kind_of w.shape l) a.high (fits_at w l a.high made a.high_was) j.link
@@ -239,6 +253,81 @@ host_joined_from n limits = joined_by n (part_count n - 2) (record { 0 = 0 }) (r
 
 host_joined_to : (n : ShapeNumbers) → WithinLimits n → Joined n 0 (part_count n - 3)
 host_joined_to n limits = joined_by n (part_count n - 3) (record { 0 = router_part n 0 }) (record { 0 = 0 }) 0 limits (link_to_host n) (inr refl)
+
+-- ---- events of the detector
+
+at_last : (n : ShapeNumbers) → WithinLimits n → visited n + link_count n ≡ detector_part n
+at_last n limits = let j = (host_joined_from n limits).behind in let k = (host_joined_from n limits).before in omega arith
+
+detector_is_detector : (n : ShapeNumbers) (k : Kind) (x : PartView) → FitsKind n k x → k ≡ kind.Detector → IsDetectorPart x
+detector_is_detector n k x f e = by x (subst (λ z. FitsKind n z x) e f) where
+  by : (x : PartView) → FitsKind n kind.Detector x → IsDetectorPart x
+  by (TileV v) g = g
+  by (RouterV v) g = g
+  by (LinkV v) g = g
+  by (HostV s) g = g
+  by (DetectorV v) g = tt
+  by AbsentV g = g
+
+-- an event on part p and the detector
+record WithDetector (e : Event) (w new : WorldView) (p : ℕ) : Type 0 where
+  inside : p < visited w.shape
+  two : AtTwo e w new p (detector_part w.shape)
+  low : IsVisitedPart two.low
+  high : IsDetectorPart two.high
+  fits : FitsKind w.shape kind.Detector two.high
+  last : visited w.shape + link_count w.shape ≡ detector_part w.shape
+
+by_detector : (e : Event) (w new : WorldView) (p : ℕ) → WithinLimits w.shape → IsWorld w → happened_at e w (two_if (nat_lt p (visited w.shape)) p (detector_part w.shape)) ≡ Some new → WithDetector e w new p
+by_detector e w new p limits made h =
+    let x = by_tests e w new (nat_lt p (visited w.shape)) p (detector_part w.shape) h in
+    let l = ltb-true p (visited w.shape) x.0 in
+    let a = x.1 in
+    record {
+      inside = l;
+      two = a;
+      low = visited_is_visited w.shape (kind_of w.shape p) a.low (fits_at w p a.low made a.low_was) (visited_kind w.shape p l);
+      high = detector_is_detector w.shape (kind_of w.shape (detector_part w.shape)) a.high (fits_at w (detector_part w.shape) a.high made a.high_was) (detector_last w.shape);
+      fits = subst (λ z. FitsKind w.shape z a.high) (detector_last w.shape) (fits_at w (detector_part w.shape) a.high made a.high_was);
+      last = at_last w.shape limits;
+    }
+
+-- both show what they do
+pair : (e : Event) (w new : WorldView) (p : ℕ) (R : Facts → Facts → DetectorState → DetectorState → Type 0) (b : WithDetector e w new p) (before behind : Facts) (old next : DetectorState)
+    → shows b.two.low ≡ Visited before → shows b.two.met.low ≡ Visited behind → shows b.two.high ≡ Detector old → shows b.two.met.high ≡ Detector next → R before behind old next
+    → (s : PartSteps (visited w.shape) p (visited w.shape + link_count w.shape) (shown w) (shown new)) × (d : DetectorSteps (visited w.shape + link_count w.shape) (shown w) (shown new)) × R s.before s.behind d.before d.behind
+pair e w new p R b before behind old next x y z u r =
+    let n = visited w.shape in
+    let q = detector_part w.shape in
+    let a = b.two in
+    let after_both = with_both w p q a.met in
+    let last = b.last in let inside = b.inside in
+    let ne : p ≢ q = λ (e : p ≡ q). omega arith in
+    let low = low_becomes w p q a.low a.met ne a.low_was in
+    let high = high_becomes w p q a.high a.met (λ e. ne (sym e)) a.high_was in
+    subst (λ v. (s : PartSteps n p (n + link_count w.shape) (shown w) (shown v)) × (d : DetectorSteps (n + link_count w.shape) (shown w) (shown v)) × R s.before s.behind d.before d.behind) (sym a.is)
+    (subst (λ k. (s : PartSteps n p k (shown w) (shown after_both)) × (d : DetectorSteps k (shown w) (shown after_both)) × R s.before s.behind d.before d.behind) (sym b.last) (
+      record { inside = b.inside; before = before; behind = behind; becomes = record { was = low.was ∙ ap Some x; is = low.is ∙ ap Some y }; only = both_only w p q a.met },
+      record { before = old; behind = next; becomes = record { was = high.was ∙ ap Some z; is = high.is ∙ ap Some u } },
+      r,
+    ))
+
+-- the detector alone shows what it does
+alone : (e : Event) (w new : WorldView) (R : DetectorState → DetectorState → Type 0) → visited w.shape + link_count w.shape ≡ detector_part w.shape → (a : AtOne e w new (detector_part w.shape)) (old next : DetectorState)
+    → shows a.before ≡ Detector old → shows a.behind ≡ Detector next → R old next
+    → (o : OnlyAt (visited w.shape + link_count w.shape) (visited w.shape + link_count w.shape) (shown w) (shown new)) × (d : DetectorSteps (visited w.shape + link_count w.shape) (shown w) (shown new)) × R d.before d.behind
+alone e w new R last a old next x y r =
+    let q = detector_part w.shape in
+    let n = visited w.shape in
+    let then_ = with_part w q a.behind in
+    let b = one_becomes w q a.before a.behind a.was in
+    subst (λ v. (o : OnlyAt (n + link_count w.shape) (n + link_count w.shape) (shown w) (shown v)) × (d : DetectorSteps (n + link_count w.shape) (shown w) (shown v)) × R d.before d.behind) (sym a.is)
+    (subst (λ k. (o : OnlyAt k k (shown w) (shown then_)) × (d : DetectorSteps k (shown w) (shown then_)) × R d.before d.behind) (sym last)
+    (one_only w q a.behind, record { before = old; behind = next; becomes = record { was = b.was ∙ ap Some x; is = b.is ∙ ap Some y } }, r))
+
+-- the detector of a machine visits the machine's parts
+visits : (n : ShapeNumbers) (k : ℕ) (x : PartView) (s : DetectorState) → FitsKind n kind.Detector x → x ≡ DetectorV (record { visited = k; now = s }) → k ≡ visited n
+visits n k x s f e = (subst (FitsKind n kind.Detector) e f).0
 
 pub steps : (e : Event) (w new : WorldView) → WithinLimits w.shape → IsWorld w → happened e w ≡ Some new → IsStep e w new
 steps (event.Turn t k) w new limits made h =
@@ -274,9 +363,63 @@ steps event.HostTake w new limits made h =
     let a = at_two event.HostTake w new 0 q h in
     let m = meeting event.HostTake a.low a.high a.met a.row in
     record { event = Arrive (link_number w.shape q) 0; is = refl; steps = arrive_step w event.HostTake new 0 q j a (host_take_did m.crossing a.low a.met.low (low_fits event.HostTake w new 0 q made j a) m.low_row) (take_emptier_link m.crossing a.high a.met.high (high_fits event.HostTake w new 0 q made j a) m.high_row) }
-steps (event.Report p) w new limits made h = let x = by_tests (event.Report p) w new (nat_lt p.0 (visited w.shape)) p.0 (detector_part w.shape) h in let r = x.1.row in cc r
-steps event.Begin w new limits made h = let a = at_one event.Begin w new (detector_part w.shape) h in absurd (no_begin a.before a.behind a.row)
-steps (event.Confirm p) w new limits made h = let x = by_tests (event.Confirm p) w new (nat_lt p.0 (visited w.shape)) p.0 (detector_part w.shape) h in let r = x.1.row in cc r
-steps event.Announce w new limits made h = let a = at_one event.Announce w new (detector_part w.shape) h in absurd (no_announce a.before a.behind a.row)
-steps (event.Release p) w new limits made h = let x = by_tests (event.Release p) w new (nat_lt p.0 (visited w.shape)) p.0 (detector_part w.shape) h in let r = x.1.row in cc r
-steps (event.Go p) w new limits made h = let x = by_tests (event.Go p) w new (nat_lt p.0 (visited w.shape)) p.0 (detector_part w.shape) h in let r = x.1.row in cc r
+steps (event.Report p) w new limits made h =
+    let b = by_detector (event.Report p) w new p.0 limits made h in
+    let a = b.two in
+    let m = meeting (event.Report p) a.low a.high a.met a.row in
+    let x = report_part p m.crossing a.low a.met.low b.low m.low_row in
+    let y = report_detector p x.0 a.high a.met.high b.high (subst (λ c. after (event.Report p) c a.high ≡ Some a.met.high) x.1 m.high_row) in
+    let d = x.2 in
+    let all = visits w.shape y.visited a.high y.before b.fits y.part in
+    let row = subst (λ v. report_row p.0 v y.before ≡ Some y.behind) d.does.0 y.does.2 in
+    let t = pair (event.Report p) w new p.0 (λ f g r s. Whitens f g × (report_row p.0 f.view r ≡ Some s)) b d.before d.behind y.before y.behind d.was d.is y.was y.is (d.does.2, row) in
+    record { event = Report p.0; is = refl; steps = (t.0, t.1, t.2.0, t.2.1) }
+steps event.Begin w new limits made h =
+    let a = at_one event.Begin w new (detector_part w.shape) h in
+    let y = begin_did a.before a.behind a.row in
+    let t = alone event.Begin w new (λ r s. begin_row r ≡ Some s) (at_last w.shape limits) a y.before y.behind y.was y.is y.does in
+    record { event = Begin; is = refl; steps = (t.0, t.1, t.2) }
+steps (event.Confirm p) w new limits made h =
+    let b = by_detector (event.Confirm p) w new p.0 limits made h in
+    let a = b.two in
+    let m = meeting (event.Confirm p) a.low a.high a.met a.row in
+    let x = confirm_part p m.crossing a.low a.met.low b.low m.low_row in
+    let y = confirm_detector p x.0 a.high a.met.high b.high (subst (λ c. after (event.Confirm p) c a.high ≡ Some a.met.high) x.1 m.high_row) in
+    let d = x.2 in
+    let all = visits w.shape y.visited a.high y.before b.fits y.part in
+    let n = visited w.shape in
+    let row = subst (λ v. confirm_row n v y.before ≡ Some y.behind) d.does.0 (subst (λ k. confirm_row k (view_of x.0) y.before ≡ Some y.behind) all y.does.2) in
+    let t = pair (event.Confirm p) w new p.0 (λ f g r s. (g ≡ f) × (r.phase ≡ phase.Confirm p.0) × (confirm_row n f.view r ≡ Some s)) b d.before d.behind y.before y.behind d.was d.is y.was y.is (d.does.1, y.does.0, row) in
+    record { event = Confirm p.0; is = refl; steps = (t.0, t.1, t.2.0, t.2.1, t.2.2) }
+steps event.Announce w new limits made h =
+    let a = at_one event.Announce w new (detector_part w.shape) h in
+    let y = announce_did a.before a.behind a.row in
+    let n = visited w.shape in
+    let fits = subst (λ z. FitsKind w.shape z a.before) (detector_last w.shape) (fits_at w (detector_part w.shape) a.before made a.was) in
+    let all = visits w.shape y.visited a.before y.before fits y.part in
+    let t = alone event.Announce w new (λ r s. announce_row n r ≡ Some s) (at_last w.shape limits) a y.before y.behind y.was y.is (subst (λ k. announce_row k y.before ≡ Some y.behind) all y.does) in
+    record { event = Announce; is = refl; steps = (t.0, t.1, t.2) }
+steps (event.Release p) w new limits made h =
+    let b = by_detector (event.Release p) w new p.0 limits made h in
+    let a = b.two in
+    let m = meeting (event.Release p) a.low a.high a.met a.row in
+    let x = release_part p m.crossing a.low a.met.low b.low m.low_row in
+    let y = release_detector p x.0 a.high a.met.high b.high (subst (λ c. after (event.Release p) c a.high ≡ Some a.met.high) x.1 m.high_row) in
+    let d = x.2 in
+    let all = visits w.shape y.visited a.high y.before b.fits y.part in
+    let n = visited w.shape in
+    let row = subst (λ k. release_row k y.before ≡ Some y.behind) all y.does.2 in
+    let t = pair (event.Release p) w new p.0 (λ f g r s. Turns true f g × (r.phase ≡ phase.Release p.0) × (release_row n r ≡ Some s)) b d.before d.behind y.before y.behind d.was d.is y.was y.is (d.does.1, y.does.0, row) in
+    record { event = Release p.0; is = refl; steps = (t.0, t.1, t.2.0, t.2.1, t.2.2) }
+steps (event.Go p) w new limits made h =
+    let b = by_detector (event.Go p) w new p.0 limits made h in
+    let a = b.two in
+    let m = meeting (event.Go p) a.low a.high a.met a.row in
+    let x = go_part p m.crossing a.low a.met.low b.low m.low_row in
+    let y = go_detector p x.0 a.high a.met.high b.high (subst (λ c. after (event.Go p) c a.high ≡ Some a.met.high) x.1 m.high_row) in
+    let d = x.2 in
+    let all = visits w.shape y.visited a.high y.before b.fits y.part in
+    let n = visited w.shape in
+    let row = subst (λ k. go_row k y.before ≡ Some y.behind) all y.does.2 in
+    let t = pair (event.Go p) w new p.0 (λ f g r s. Turns false f g × (r.phase ≡ phase.Go p.0) × (go_row n r ≡ Some s)) b d.before d.behind y.before y.behind d.was d.is y.was y.is (d.does.1, y.does.0, row) in
+    record { event = Go p.0; is = refl; steps = (t.0, t.1, t.2.0, t.2.1, t.2.2) }

@@ -16,7 +16,8 @@ use Rattle.tn_router.specs.Rows.{depart_row, is_still, router_deed, with_node}
 use Rattle.tn_router.specs.RouterView.{RouterPlan}
 use Rattle.tn_router.proofs.Deeds.{accept_deed, confirm_deed, depart_deed, go_deed, release_deed, report_deed, route_deed}
 use Rattle.tn_tile.proofs.Steps.{taken}
-use Rattle.tn_quiet.specs.Shows.{DoesDeed, router_shows, view_of}
+use Rattle.tn_rows.specs.DetectorDeed.{view_of}
+use Rattle.tn_quiet.specs.Shows.{DoesDeed, router_shows}
 use Rattle.tn_quiet.proofs.Tiles.{kept_by}
 
 given_row : (way : Port) (k : Packet) (s t : RouterState) → option_map (with_node s) (give_row way k s.node) ≡ Some t → depart_row way s ≡ Some t

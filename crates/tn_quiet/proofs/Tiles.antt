@@ -14,7 +14,8 @@ use Rattle.tn_tile.specs.declared.state.TileState.{TileState}
 use Rattle.tn_tile.specs.TileView.{TilePlan}
 use Rattle.tn_tile.proofs.Deeds.{accept_deed, confirm_deed, deliver_deed, depart_deed, go_deed, release_deed, report_deed, turn_deed}
 use Rattle.tn_tile.proofs.Steps.{taken}
-use Rattle.tn_quiet.specs.Shows.{DoesDeed, tile_shows, view_of}
+use Rattle.tn_rows.specs.DetectorDeed.{view_of}
+use Rattle.tn_quiet.specs.Shows.{DoesDeed, tile_shows}
 
 -- what was mapped is there
 pub kept_by : {X Y : Type 0} (f : X → Y) (o : Option X) (y : Y) → option_map f o ≡ Some y → (x : X) × (o ≡ Some x) × (y ≡ f x)

@@ -17,7 +17,7 @@ use Rattle.tn_rows.specs.WorldView.{WorldView}
 use Rattle.tn_tile.specs.Rows.{tile_deed}
 use Rattle.tn_tile.specs.declared.state.TileState.{TileState}
 use Rattle.tn_tile.specs.TileView.{TilePlan}
-use Rattle.tn_quiet.specs.DetectorDeed.{DetectorDoes, detector_deed}
+use Rattle.tn_rows.specs.DetectorDeed.{DetectorDoes, detector_deed}
 use Rattle.tn_quiet.specs.Machine.{as_rest, link_count, shown}
 use Rattle.tn_quiet.specs.Shows.{DoesDeed, host_shows, router_shows, tile_shows}
 

@@ -1,4 +1,3 @@
-pub mod DetectorDeed
 pub mod Law
 pub mod Machine
 pub mod Shows

@@ -7,17 +7,18 @@ use Rattle.tn_base.specs.Parts.{part_count, visited}
 use Rattle.tn_detect.specs.DetectorView.{fresh_state}
 use Rattle.tn_rest.specs.Happens.{Announce, Arrive, Begin, Confirm, Depart, Go, Release, Report, RestEvent, Work}
 use Rattle.tn_rest.specs.Seen.{Detector, Link, SeenPart, Visited}
-use Rattle.tn_rows.specs.PartView.{PartView, TileV, RouterV, LinkV, HostV, AbsentV}
+use Rattle.tn_rows.specs.PartView.{PartView, TileV, RouterV, LinkV, HostV, DetectorV, AbsentV}
 use Rattle.tn_rows.specs.Places.{part_of}
 use Rattle.tn_rows.specs.WorldView.{WorldView}
 use Rattle.tn_quiet.specs.Shows.{host_shows, router_shows, tile_shows}
 
--- what a part shows. The detector, which is not joined yet, shows a fresh one
+-- what a part shows. Where no part is, a fresh detector is shown
 abbrev pub shows : PartView → SeenPart
 shows (TileV v) = Visited (tile_shows v.now)
 shows (RouterV v) = Visited (router_shows v.now)
 shows (LinkV v) = Link (length v.packets)
 shows (HostV s) = Visited (host_shows s)
+shows (DetectorV v) = Detector v.now
 shows AbsentV = Detector (fresh_state 0)
 
 abbrev pub shown : WorldView → List SeenPart

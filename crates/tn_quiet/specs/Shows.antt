@@ -1,6 +1,5 @@
 -- What tiles, routers and the host show of themselves to the laws of rest, and what a deed does to what they show.
 use Rattle.std.specs.Prelude.{◌≡◌, true, false}
-use Rattle.tn_detect.specs.declared.facts.PartView.{PartView}
 use Rattle.tn_host.specs.HostView.{HostState}
 use Rattle.tn_host.specs.Rows.{host_facts}
 use Rattle.tn_node.specs.declared.facts.PartFacts.{PartFacts}
@@ -10,13 +9,11 @@ use Rattle.tn_rest.specs.declared.facts.Facts.{Facts}
 use Rattle.tn_rest.specs.RestView.{Gets, Sends, Turns, Whitens, Works}
 use Rattle.tn_router.specs.declared.state.RouterState.{RouterState}
 use Rattle.tn_router.specs.Rows.{router_facts}
+use Rattle.tn_rows.specs.DetectorDeed.{view_of}
 use Rattle.tn_tile.specs.Rows.{tile_facts}
 use Rattle.tn_tile.specs.declared.state.TileState.{TileState}
 
--- what a part tells the detector, without the detector's answer
-abbrev pub view_of : PartFacts → PartView
-view_of f = record { still = f.still; black = f.black; counter = f.counter; live = f.live; votes = f.votes; at_end = f.at_end }
-
+-- what each visited part shows
 abbrev pub tile_shows : TileState → Facts
 tile_shows s = record { view = view_of (tile_facts s); held = s.node.held }
 

@@ -1,5 +1,6 @@
 -- What a deed makes of a detector of n parts, if the detector can do it. The facts that cross have the detector's answer.
 use Rattle.std.specs.Prelude.{ℕ, ◌≡◌, ◌==◌, ◌<◌, ◌&&◌, Bool, false, Option, Some, None, nat_lt, if◌then◌else◌}
+use Rattle.tn_detect.specs.declared.facts.PartView.{PartView}
 use Rattle.tn_detect.specs.declared.phase.Phase.{Phase}
 use Rattle.tn_detect.specs.declared.phase.Phase.TheVariants as phase
 use Rattle.tn_detect.specs.declared.state.DetectorState.{DetectorState}
@@ -8,7 +9,10 @@ use Rattle.tn_detect.specs.Rows.{announce_row, begin_row, confirm_row, go_row, r
 use Rattle.tn_node.specs.declared.facts.PartFacts.{PartFacts}
 use Rattle.tn_node.specs.Deed.{Deed}
 use Rattle.tn_node.specs.Deed as deed
-use Rattle.tn_quiet.specs.Shows.{view_of}
+
+-- what a part tells the detector, without the detector's answer
+abbrev pub view_of : PartFacts → PartView
+view_of f = record { still = f.still; black = f.black; counter = f.counter; live = f.live; votes = f.votes; at_end = f.at_end }
 
 -- part i comes next to be confirmed, to be released, and to go on
 abbrev pub confirms : ℕ → Phase → Bool
