@@ -5,4 +5,6 @@ pub mod Machines
 pub mod PartKinds
 pub mod Parts
 pub mod Routers
+pub mod Runs
 pub mod Tiles
+pub mod Worlds

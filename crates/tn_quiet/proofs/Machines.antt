@@ -47,7 +47,7 @@ pub record AtOne (e : Event) (w new : WorldView) (p : ℕ) : Type 0 where
   pub row : after e crossing.None before ≡ Some behind
   pub is : new ≡ with_part w p behind
 
-at_one : (e : Event) (w new : WorldView) (p : ℕ) → happened_at e w (One p) ≡ Some new → AtOne e w new p
+pub at_one : (e : Event) (w new : WorldView) (p : ℕ) → happened_at e w (One p) ≡ Some new → AtOne e w new p
 at_one e w new p h = by (slice_get w.parts p) refl h where
   by : (o : Option PartView) → slice_get w.parts p ≡ o → option_map (with_part w p) (option_and_then (after e crossing.None) o) ≡ Some new → AtOne e w new p
   by None is q = cc q
@@ -62,7 +62,7 @@ pub record AtTwo (e : Event) (w new : WorldView) (p q : ℕ) : Type 0 where
   pub row : meets e low high ≡ Some met
   pub is : new ≡ with_both w p q met
 
-at_two : (e : Event) (w new : WorldView) (p q : ℕ) → happened_at e w (Two p q) ≡ Some new → AtTwo e w new p q
+pub at_two : (e : Event) (w new : WorldView) (p q : ℕ) → happened_at e w (Two p q) ≡ Some new → AtTwo e w new p q
 at_two e w new p q h = by (slice_get w.parts p) (slice_get w.parts q) refl refl h where
   by : (a b : Option PartView) → slice_get w.parts p ≡ a → slice_get w.parts q ≡ b → option_map (with_both w p q) (meets_at e a b) ≡ Some new → AtTwo e w new p q
   by None b f g r = cc r
@@ -71,7 +71,7 @@ at_two e w new p q h = by (slice_get w.parts p) (slice_get w.parts q) refl refl 
 
 -- ---- what stands at a place
 
-fits_at : (w : WorldView) (p : ℕ) (x : PartView) → IsWorld w → slice_get w.parts p ≡ Some x → FitsKind w.shape (kind_of w.shape p) x
+pub fits_at : (w : WorldView) (p : ℕ) (x : PartView) → IsWorld w → slice_get w.parts p ≡ Some x → FitsKind w.shape (kind_of w.shape p) x
 fits_at w p x made e =
     let l = slice_get_within w.parts p x e in
     let count = made.count in

@@ -1,6 +1,7 @@
 -- The laws of deeds and of machines.
-use Rattle.std.specs.Prelude.{ℕ, ◌≡◌, ◌↔◌, Some}
+use Rattle.std.specs.Prelude.{ℕ, ◌≡◌, ◌↔◌, List, Some}
 use Rattle.tn_base.specs.declared.event.Event.{Event}
+use Rattle.tn_base.specs.declared.event.Event.TheVariants as event
 use Rattle.tn_base.specs.Parts.{visited}
 use Rattle.tn_base.specs.Shape.{WithinLimits}
 use Rattle.tn_detect.specs.declared.state.DetectorState.{DetectorState}
@@ -11,14 +12,17 @@ use Rattle.tn_router.specs.declared.state.RouterState.{RouterState}
 use Rattle.tn_router.specs.Rows.{router_deed}
 use Rattle.tn_router.specs.RouterView.{RouterPlan}
 use Rattle.tn_rest.specs.Happens.{RestEvent}
-use Rattle.tn_rest.specs.Seen.{Steps}
+use Rattle.tn_rest.specs.Law.{Announces, IsStart}
+use Rattle.tn_rest.specs.Quiet.{IsQuiet}
+use Rattle.tn_rest.specs.Seen.{Steps, seen}
+use Rattle.tn_rows.specs.Runs.{Walk}
 use Rattle.tn_rows.specs.Events.{IsWorld, happened}
 use Rattle.tn_rows.specs.WorldView.{WorldView}
 use Rattle.tn_tile.specs.Rows.{tile_deed}
 use Rattle.tn_tile.specs.declared.state.TileState.{TileState}
 use Rattle.tn_tile.specs.TileView.{TilePlan}
 use Rattle.tn_rows.specs.DetectorDeed.{DetectorDoes, detector_deed}
-use Rattle.tn_quiet.specs.Machine.{as_rest, link_count, shown}
+use Rattle.tn_quiet.specs.Machine.{as_rest, link_count, rest_of, shown}
 use Rattle.tn_quiet.specs.Shows.{DoesDeed, host_shows, router_shows, tile_shows}
 
 abbrev pub TilesDo : Type 0
@@ -41,3 +45,19 @@ pub record IsStep (e : Event) (old new : WorldView) : Type 0 where
 
 abbrev pub MachinesStep : Type 0
 MachinesStep = (e : Event) (old new : WorldView) → WithinLimits old.shape → IsWorld old → happened e old ≡ Some new → IsStep e old new
+
+-- ---- runs of a machine
+
+-- a machine has its parts, and the detector's invariant holds of it
+pub record IsQuietWorld (w : WorldView) : Type 0 where
+  pub world : IsWorld w
+  pub quiet : IsQuiet (visited w.shape) (link_count w.shape) (rest_of w)
+
+-- from a start, the invariant holds at each moment of every walk
+abbrev pub MachinesAreQuiet : Type 0
+MachinesAreQuiet = (events : List Event) (start end : WorldView) → WithinLimits start.shape → IsWorld start → IsStart (visited start.shape) (rest_of start) → Walk start events end → IsQuietWorld end
+
+-- and each announcement comes at rest, with the answer of all parts
+abbrev pub MachinesAnnounceAtRest : Type 0
+MachinesAnnounceAtRest = (events : List Event) (start old new : WorldView) → WithinLimits start.shape → IsWorld start → IsStart (visited start.shape) (rest_of start) → Walk start events old → happened event.Announce old ≡ Some new
+    → Announces (visited old.shape) (link_count old.shape) (rest_of old) (seen (visited old.shape) (link_count old.shape) (shown new))

@@ -6,7 +6,8 @@ use Rattle.tn_base.specs.declared.shape.ShapeNumbers.{ShapeNumbers}
 use Rattle.tn_base.specs.Parts.{part_count, visited}
 use Rattle.tn_detect.specs.DetectorView.{fresh_state}
 use Rattle.tn_rest.specs.Happens.{Announce, Arrive, Begin, Confirm, Depart, Go, Release, Report, RestEvent, Work}
-use Rattle.tn_rest.specs.Seen.{Detector, Link, SeenPart, Visited}
+use Rattle.tn_rest.specs.RestView.{RestView}
+use Rattle.tn_rest.specs.Seen.{Detector, Link, SeenPart, Visited, seen}
 use Rattle.tn_rows.specs.PartView.{PartView, TileV, RouterV, LinkV, HostV, DetectorV, AbsentV}
 use Rattle.tn_rows.specs.Places.{part_of}
 use Rattle.tn_rows.specs.WorldView.{WorldView}
@@ -47,3 +48,7 @@ as_rest n (event.Confirm p) = Some (Confirm p.0)
 as_rest n event.Announce = Some Announce
 as_rest n (event.Release p) = Some (Release p.0)
 as_rest n (event.Go p) = Some (Go p.0)
+
+-- the machine as the laws of rest see it
+abbrev pub rest_of : WorldView → RestView
+rest_of w = seen (visited w.shape) (link_count w.shape) (shown w)

@@ -1,6 +1,6 @@
 //! Laws of deeds and of machines. A law answers nothing: its contract is what it says.
 
-ghost use Rattle.tn_quiet.specs.Law.{DetectorsDo, HostsDo, MachinesStep, RoutersDo, TilesDo};
+ghost use Rattle.tn_quiet.specs.Law.{DetectorsDo, HostsDo, MachinesAnnounceAtRest, MachinesAreQuiet, MachinesStep, RoutersDo, TilesDo};
 
 /// What a tile, a router and the host do in an event is what the laws of rest ask of it, and so is the detector's side.
 pub fn law_deeds()
@@ -10,7 +10,10 @@ pub fn law_deeds()
     ensures detectors { DetectorsDo }
 {}
 
-/// Each event of a machine is an event of the laws of rest, on what the machine's parts show.
+/// Each event of a machine is an event of the laws of rest, on what the machine's parts show. So from a start the detector's
+/// invariant holds at each moment of every walk, and each announcement comes at rest.
 pub fn law_machines()
-    ensures { MachinesStep }
+    ensures steps { MachinesStep }
+    ensures quiet { MachinesAreQuiet }
+    ensures rest { MachinesAnnounceAtRest }
 {}
