@@ -2,6 +2,7 @@ pub mod Detectors
 pub mod Hosts
 pub mod Lists
 pub mod Machines
+pub mod OpenMachines
 pub mod PartKinds
 pub mod Parts
 pub mod Routers

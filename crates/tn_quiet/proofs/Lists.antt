@@ -20,7 +20,7 @@ get_other (z ∷ xs) (suc p) zero y ne = refl
 get_other (z ∷ xs) (suc p) (suc i) y ne = get_other xs p i y (λ e. ne (ap suc e))
 
 -- what is shown at a place
-shown_at : (w : WorldView) (p : ℕ) (x : PartView) → slice_get w.parts p ≡ Some x → slice_get (shown w) p ≡ Some (shows x)
+pub shown_at : (w : WorldView) (p : ℕ) (x : PartView) → slice_get w.parts p ≡ Some x → slice_get (shown w) p ≡ Some (shows x)
 shown_at w p x e = slice_get-map shows w.parts p ∙ ap (option_map shows) e
 
 shown_same : (v w : WorldView) (i : ℕ) → slice_get w.parts i ≡ slice_get v.parts i → slice_get (shown w) i ≡ slice_get (shown v) i

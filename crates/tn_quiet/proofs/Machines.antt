@@ -78,7 +78,7 @@ fits_at w p x made e =
     let is : get_or w.parts p AbsentV ≡ x = sym (unwrap_or-slice_get w.parts p AbsentV) ∙ ap (λ o. unwrap_or o AbsentV) e in
     subst (FitsKind w.shape (kind_of w.shape p)) is (made.each p (omega arith))
 
-visited_is_visited : (n : ShapeNumbers) (k : Kind) (x : PartView) → FitsKind n k x → IsVisited k → IsVisitedPart x
+pub visited_is_visited : (n : ShapeNumbers) (k : Kind) (x : PartView) → FitsKind n k x → IsVisited k → IsVisitedPart x
 visited_is_visited n k (TileV v) f i = tt
 visited_is_visited n k (RouterV v) f i = tt
 visited_is_visited n k (HostV s) f i = tt
@@ -256,7 +256,7 @@ host_joined_to n limits = joined_by n (part_count n - 3) (record { 0 = router_pa
 
 -- ---- events of the detector
 
-at_last : (n : ShapeNumbers) → WithinLimits n → visited n + link_count n ≡ detector_part n
+pub at_last : (n : ShapeNumbers) → WithinLimits n → visited n + link_count n ≡ detector_part n
 at_last n limits = let j = (host_joined_from n limits).behind in let k = (host_joined_from n limits).before in omega arith
 
 detector_is_detector : (n : ShapeNumbers) (k : Kind) (x : PartView) → FitsKind n k x → k ≡ kind.Detector → IsDetectorPart x

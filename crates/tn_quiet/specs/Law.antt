@@ -1,9 +1,10 @@
 -- The laws of deeds and of machines.
-use Rattle.std.specs.Prelude.{ℕ, ◌≡◌, ◌↔◌, List, Some}
+use Rattle.std.specs.Prelude.{ℕ, ◌≡◌, ◌≢◌, ◌↔◌, List, Some, IsSome}
 use Rattle.tn_base.specs.declared.event.Event.{Event}
 use Rattle.tn_base.specs.declared.event.Event.TheVariants as event
 use Rattle.tn_base.specs.Parts.{visited}
 use Rattle.tn_base.specs.Shape.{WithinLimits}
+use Rattle.tn_detect.specs.declared.phase.Phase.TheVariants as phase
 use Rattle.tn_detect.specs.declared.state.DetectorState.{DetectorState}
 use Rattle.tn_host.specs.HostView.{HostState}
 use Rattle.tn_host.specs.Rows.{host_deed}
@@ -13,7 +14,7 @@ use Rattle.tn_router.specs.Rows.{router_deed}
 use Rattle.tn_router.specs.RouterView.{RouterPlan}
 use Rattle.tn_rest.specs.Happens.{RestEvent}
 use Rattle.tn_rest.specs.Law.{Announces, IsStart}
-use Rattle.tn_rest.specs.Quiet.{IsQuiet}
+use Rattle.tn_rest.specs.Quiet.{IsAtRest, IsQuiet}
 use Rattle.tn_rest.specs.Seen.{Steps, seen}
 use Rattle.tn_rows.specs.Runs.{Walk}
 use Rattle.tn_rows.specs.Events.{IsWorld, happened}
@@ -61,3 +62,10 @@ MachinesAreQuiet = (events : List Event) (start end : WorldView) → WithinLimit
 abbrev pub MachinesAnnounceAtRest : Type 0
 MachinesAnnounceAtRest = (events : List Event) (start old new : WorldView) → WithinLimits start.shape → IsWorld start → IsStart (visited start.shape) (rest_of start) → Walk start events old → happened event.Announce old ≡ Some new
     → Announces (visited old.shape) (link_count old.shape) (rest_of old) (seen (visited old.shape) (link_count old.shape) (shown new))
+
+-- at rest an event is enabled, and at any time if the detector does not collect reports
+abbrev pub MachinesAreOpenAtRest : Type 0
+MachinesAreOpenAtRest = (w : WorldView) → WithinLimits w.shape → IsQuietWorld w → IsAtRest (visited w.shape) (link_count w.shape) (rest_of w) → (e : Event) × IsSome (happened e w)
+
+abbrev pub MachinesAreOpenOutsideCollect : Type 0
+MachinesAreOpenOutsideCollect = (w : WorldView) → WithinLimits w.shape → IsQuietWorld w → (rest_of w).detector.phase ≢ phase.Collect → (e : Event) × IsSome (happened e w)

@@ -1,6 +1,6 @@
 //! Laws of deeds and of machines. A law answers nothing: its contract is what it says.
 
-ghost use Rattle.tn_quiet.specs.Law.{DetectorsDo, HostsDo, MachinesAnnounceAtRest, MachinesAreQuiet, MachinesStep, RoutersDo, TilesDo};
+ghost use Rattle.tn_quiet.specs.Law.{DetectorsDo, HostsDo, MachinesAnnounceAtRest, MachinesAreOpenAtRest, MachinesAreOpenOutsideCollect, MachinesAreQuiet, MachinesStep, RoutersDo, TilesDo};
 
 /// What a tile, a router and the host do in an event is what the laws of rest ask of it, and so is the detector's side.
 pub fn law_deeds()
@@ -16,4 +16,11 @@ pub fn law_machines()
     ensures steps { MachinesStep }
     ensures quiet { MachinesAreQuiet }
     ensures rest { MachinesAnnounceAtRest }
+{}
+
+/// If the detector's invariant holds of a machine, an event is enabled at rest. If the detector does not collect reports, an
+/// event is enabled at any time.
+pub fn law_open()
+    ensures rest { MachinesAreOpenAtRest }
+    ensures outside { MachinesAreOpenOutsideCollect }
 {}
