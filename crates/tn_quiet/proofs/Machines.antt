@@ -69,7 +69,7 @@ at_two e w new p q h = by (slice_get w.parts p) (slice_get w.parts q) refl refl 
   by (Some x) None f g r = cc r
   by (Some x) (Some y) f g r = let m = kept_by (with_both w p q) (meets e x y) new r in record { low = x; high = y; met = m.0; low_was = f; high_was = g; row = m.1; is = m.2 }
 
--- ---- what stands at a place
+-- ---- what is at a place
 
 pub fits_at : (w : WorldView) (p : ℕ) (x : PartView) → IsWorld w → slice_get w.parts p ≡ Some x → FitsKind w.shape (kind_of w.shape p) x
 fits_at w p x made e =
