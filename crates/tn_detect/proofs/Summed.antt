@@ -134,7 +134,7 @@ summed-set told round lacking i fewer all another r s l low high e f =
     let a = m.missing in let b = m.sum in let c = s.missing in let d = s.sum in
     record { begun = s.begun; until = until-set told round i r low high s.until; missing = omega arith; sum = omega (arith, ints) }
 
--- ---- a round in which nothing is told
+-- ---- a round without reports
 
 pub shown_nothing : (round : ℕ) (told : List Told) → ((k : ℕ) → k < length told → (told_by told k).round < round) → shown_in round told ≡ replicate (length told) None
 shown_nothing round told before =

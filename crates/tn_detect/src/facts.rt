@@ -7,7 +7,7 @@ ghost use Rattle.tn_detect.specs.Rows.{judged};
 /// What the detector learns of a part.
 #[derive(Clone, Copy, PartialEq, Eq, Debug)]
 pub struct PartView {
-    /// The part does nothing by itself, and no message stands there.
+    /// The part does nothing by itself, and no message is there.
     pub still: bool,
     /// The part took a packet from a link since it reported last.
     pub black: bool,
