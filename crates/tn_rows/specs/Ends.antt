@@ -9,7 +9,7 @@ use Rattle.tn_base.specs.declared.ids.ThreadId.{ThreadId}
 use Rattle.tn_base.specs.Address.{place_in_tile}
 use Rattle.tn_host.specs.Rows.{at_end}
 use Rattle.tn_rows.specs.Events.{Rests}
-use Rattle.tn_rows.specs.PartView.{PartView, TileV, RouterV, LinkV, HostV, AbsentV}
+use Rattle.tn_rows.specs.PartView.{PartView, TileV, RouterV, LinkV, HostV, DetectorV, AbsentV}
 use Rattle.tn_rows.specs.Places.{part_of}
 use Rattle.tn_rows.specs.WorldView.{WorldView}
 use Rattle.tn_router.specs.Rows.{is_still as router_rests}
@@ -40,6 +40,7 @@ ended_on t (TileV v) = if is_here v.plan t.0 then ended_with v.plan.shape.fuel t
 ended_on t (RouterV v) = None
 ended_on t (LinkV v) = None
 ended_on t (HostV s) = None
+ended_on t (DetectorV v) = None
 ended_on t AbsentV = None
 
 -- how a run ends with a routing on a part that is now this one: its router found a bad key
@@ -48,6 +49,7 @@ bad_key_on (TileV v) = None
 bad_key_on (RouterV v) = option_map outcome.BadKey v.now.ended
 bad_key_on (LinkV v) = None
 bad_key_on (HostV s) = None
+bad_key_on (DetectorV v) = None
 bad_key_on AbsentV = None
 
 -- how a run ends with an event after which the machine is this one, where the event is final. Before it no part tells an end
@@ -72,6 +74,7 @@ is_over (TileV v) = is_still v.now && not (has_live v.now)
 is_over (RouterV v) = router_rests v.now
 is_over (LinkV v) = is_nil v.packets
 is_over (HostV s) = at_end s
+is_over (DetectorV v) = true
 is_over AbsentV = true
 
 -- how a run ends in which nothing more can happen: all threads ended, no message stands anywhere and the host's script is at its
