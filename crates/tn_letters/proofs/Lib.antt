@@ -1,10 +1,15 @@
+pub mod Bare
 pub mod Becomes
+pub mod Calm
+pub mod Carried
 pub mod Conserved
 pub mod Copies
 pub mod Crossings
 pub mod Delivery
+pub mod Detected
 pub mod EventParts
 pub mod Fitting
+pub mod GoodParts
 pub mod Holding
 pub mod Homes
 pub mod HostWays
@@ -16,6 +21,8 @@ pub mod PartKinds
 pub mod Receivers
 pub mod Routers
 pub mod Runs
+pub mod Settling
+pub mod Silent
 pub mod Simulate
 pub mod SlotChanges
 pub mod SlotLaw

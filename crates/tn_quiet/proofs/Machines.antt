@@ -230,15 +230,15 @@ arrive_step w e new p l j a d f =
 -- ---- events by their places
 
 -- an event on the part of a thread
-by_thread : (e : Event) (w new : WorldView) (o : Option ℕ) → happened_at e w (at_part o) ≡ Some new → (p : ℕ) × (o ≡ Some p) × AtOne e w new p
+pub by_thread : (e : Event) (w new : WorldView) (o : Option ℕ) → happened_at e w (at_part o) ≡ Some new → (p : ℕ) × (o ≡ Some p) × AtOne e w new p
 by_thread e w new None h = cc h
 by_thread e w new (Some p) h = (p, refl, at_one e w new p h)
 
-by_test : (e : Event) (w new : WorldView) (b : Bool) (p : ℕ) → happened_at e w (one_if b p) ≡ Some new → (b ≡ true) × AtOne e w new p
+pub by_test : (e : Event) (w new : WorldView) (b : Bool) (p : ℕ) → happened_at e w (one_if b p) ≡ Some new → (b ≡ true) × AtOne e w new p
 by_test e w new false p h = cc h
 by_test e w new true p h = (refl, at_one e w new p h)
 
-by_tests : (e : Event) (w new : WorldView) (b : Bool) (p q : ℕ) → happened_at e w (two_if b p q) ≡ Some new → (b ≡ true) × AtTwo e w new p q
+pub by_tests : (e : Event) (w new : WorldView) (b : Bool) (p q : ℕ) → happened_at e w (two_if b p q) ≡ Some new → (b ≡ true) × AtTwo e w new p q
 by_tests e w new false p q h = cc h
 by_tests e w new true p q h = (refl, at_two e w new p q h)
 
@@ -270,15 +270,15 @@ detector_is_detector n k x f e = by x (subst (λ z. FitsKind n z x) e f) where
   by AbsentV g = g
 
 -- an event on part p and the detector
-record WithDetector (e : Event) (w new : WorldView) (p : ℕ) : Type 0 where
-  inside : p < visited w.shape
-  two : AtTwo e w new p (detector_part w.shape)
-  low : IsVisitedPart two.low
-  high : IsDetectorPart two.high
-  fits : FitsKind w.shape kind.Detector two.high
-  last : visited w.shape + link_count w.shape ≡ detector_part w.shape
+pub record WithDetector (e : Event) (w new : WorldView) (p : ℕ) : Type 0 where
+  pub inside : p < visited w.shape
+  pub two : AtTwo e w new p (detector_part w.shape)
+  pub low : IsVisitedPart two.low
+  pub high : IsDetectorPart two.high
+  pub fits : FitsKind w.shape kind.Detector two.high
+  pub last : visited w.shape + link_count w.shape ≡ detector_part w.shape
 
-by_detector : (e : Event) (w new : WorldView) (p : ℕ) → WithinLimits w.shape → IsWorld w → happened_at e w (two_if (nat_lt p (visited w.shape)) p (detector_part w.shape)) ≡ Some new → WithDetector e w new p
+pub by_detector : (e : Event) (w new : WorldView) (p : ℕ) → WithinLimits w.shape → IsWorld w → happened_at e w (two_if (nat_lt p (visited w.shape)) p (detector_part w.shape)) ≡ Some new → WithDetector e w new p
 by_detector e w new p limits made h =
     let x = by_tests e w new (nat_lt p (visited w.shape)) p (detector_part w.shape) h in
     let l = ltb-true p (visited w.shape) x.0 in

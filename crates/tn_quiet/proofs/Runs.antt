@@ -29,7 +29,7 @@ use Rattle.tn_quiet.proofs.Worlds.{both_world, one_world, stays}
 
 -- ---- an event leaves a machine of the same shape
 
-kept_at : (e : Event) (w new : WorldView) (at : Places) → IsWorld w → happened_at e w at ≡ Some new → IsWorld new × (new.shape ≡ w.shape)
+pub kept_at : (e : Event) (w new : WorldView) (at : Places) → IsWorld w → happened_at e w at ≡ Some new → IsWorld new × (new.shape ≡ w.shape)
 kept_at e w new Nowhere made h = cc h
 kept_at e w new (One p) made h =
     let a = at_one e w new p h in
@@ -44,7 +44,7 @@ kept_at e w new (Two p q) made h =
 some_visited : (n : ShapeNumbers) → 0 < visited n
 some_visited n = omega arith
 
-event_quiet : (e : Event) (w new : WorldView) → WithinLimits w.shape → IsQuietWorld w → happened e w ≡ Some new → IsQuietWorld new
+pub event_quiet : (e : Event) (w new : WorldView) → WithinLimits w.shape → IsQuietWorld w → happened e w ≡ Some new → IsQuietWorld new
 event_quiet e w new limits q h =
     let k = kept_at e w new (places w.shape e) q.world h in
     let s = steps e w new limits q.world h in
@@ -64,7 +64,7 @@ walk_quiet (e ∷ es) w end limits q r =
     let last = walk_quiet es mid end (subst WithinLimits (sym shape) limits) next r.2 in
     (last.0, last.1 ∙ shape)
 
-start_quiet : (w : WorldView) → IsWorld w → IsStart (visited w.shape) (rest_of w) → IsQuietWorld w
+pub start_quiet : (w : WorldView) → IsWorld w → IsStart (visited w.shape) (rest_of w) → IsQuietWorld w
 start_quiet w made s = record { world = made; quiet = starts (visited w.shape) (link_count w.shape) (rest_of w) s }
 
 pub quiet : (es : List Event) (start end : WorldView) → WithinLimits start.shape → IsWorld start → IsStart (visited start.shape) (rest_of start) → Walk start es end → IsQuietWorld end
