@@ -1,3 +1,5 @@
+pub mod Announced
+pub mod Arrives
 pub mod Bare
 pub mod Becomes
 pub mod Calm
@@ -16,6 +18,7 @@ pub mod HostWays
 pub mod Hosts
 pub mod Lift
 pub mod Links
+pub mod Meaning
 pub mod Moves
 pub mod PartKinds
 pub mod Receivers
