@@ -67,6 +67,7 @@ later_announced n k s =
     λ i. record (announced n s) { announcements = e i }
 
 later_happens : (m : Program) (k : ℕ) (step : BagStep) (s t : BagState) → Happens m step s t → Happens m step (later k s) (later k t)
+unfolding later_allows
 later_happens m k (bag.Private a seen) s t h = (later_may m k s a seen h.0, h.1, ap (later k) h.2 ∙ later_ended (own_step m a seen s).op a k (with_own_step m a seen s))
 later_happens m k (bag.Send a seen) s t h = (later_may m k s a seen h.0, later_sent m a (s.threads a).sends k (own_step m a seen s).op (with_own_step m a seen s) t h.1)
 later_happens m k (bag.Hand a seen l) s t h = (later_may m k s a seen h.0, h.1, (h.2.0, later_allows m.shape k s a seen l h.2.1, h.2.2, ap (later k) h.2.3))

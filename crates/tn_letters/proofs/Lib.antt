@@ -9,6 +9,7 @@ pub mod Copies
 pub mod Crossings
 pub mod Delivery
 pub mod Detected
+pub mod Empty
 pub mod EventParts
 pub mod Fitting
 pub mod GoodParts
@@ -35,5 +36,6 @@ pub mod Slots
 pub mod Starts
 pub mod Sums
 pub mod Threads
+pub mod Votes
 pub mod Walks
 pub mod Weights

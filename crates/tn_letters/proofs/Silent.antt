@@ -87,7 +87,7 @@ pub record Silent (w new : WorldView) : Type 0 where
   pub is : new ≡ with_parts w parts
   pub alike : Alike (settled w).parts (settled (with_parts w parts)).parts
 
-detector_is : (w : WorldView) (v : DetectorView) → OnPart w (detector_part w.shape) (DetectorV v) → detector_on w ≡ v.now
+pub detector_is : (w : WorldView) (v : DetectorView) → OnPart w (detector_part w.shape) (DetectorV v) → detector_on w ≡ v.now
 detector_is w v on = ap detector_in on.is
 
 no_release_at : (w : WorldView) (ph : Phase) → (detector_on w).phase ≡ ph → NoRelease ph → NoRelease (detector_on w).phase
@@ -157,7 +157,7 @@ go_silent w new p r =
     paired_silent w new p (λ value. going_part) (deed.Go p) r (λ value. going_bare) (subst NoRelease (sym r.does.0) tt) (subst (λ (s : DetectorState). NoRelease s.phase) (sym t.is) (go_phase (p + 1 == r.detector.visited) (p + 1)))
 
 -- the detector alone
-one_alike : (w : WorldView) (v t : DetectorView) → OnPart w (detector_part w.shape) (DetectorV v) → Alike w.parts (set w.parts (detector_part w.shape) (DetectorV t))
+pub one_alike : (w : WorldView) (v t : DetectorView) → OnPart w (detector_part w.shape) (DetectorV v) → Alike w.parts (set w.parts (detector_part w.shape) (DetectorV t))
 one_alike w v t on = record {
   count = length-set w.parts (detector_part w.shape) (DetectorV t);
   each = λ j. elim (cases_eq j (detector_part w.shape)) [
@@ -262,7 +262,7 @@ release_alike w p value n x v t false good on off inside last all e =
       each = λ j. release_each w p value x v t j good on off inside last;
     }
 
-detector_visits : (w : WorldView) (v : DetectorView) → IsQuietWorld w → Good w → OnPart w (detector_part w.shape) (DetectorV v) → v.visited ≡ visited w.shape
+pub detector_visits : (w : WorldView) (v : DetectorView) → IsQuietWorld w → Good w → OnPart w (detector_part w.shape) (DetectorV v) → v.visited ≡ visited w.shape
 detector_visits w v quiet good on =
     (subst (λ k. FitsKind w.shape k (DetectorV v)) (detector_last w.shape) (subst (FitsKind w.shape (kind_of w.shape (detector_part w.shape))) on.is (quiet.world.each (detector_part w.shape) on.below))).0
 
