@@ -1,19 +1,16 @@
 -- An announcement of the detector is an announcement of the bag machine.
-use Rattle.std.proofs.Common.{ℕ, ◌≡◌, ◌≢◌, ◌<◌, ◌+◌, ◌++◌, List, [], ◌∷◌, length, get_or, set, map, cond, refl, sym, ◌∙◌, ap, subst, arith, IsTrue, Some, Option}
-use Rattle.std.specs.List.{list_all}
+use Rattle.std.proofs.Common.{ℕ, ◌≡◌, ◌≢◌, ◌+◌, List, get_or, set, refl, sym, ◌∙◌, ap, subst, arith, IsTrue, Some}
 use Rattle.std.specs.Prelude.{count_by}
 use Rattle.std.proofs.lemmas.List.{get_or-map, get_or-set_other, get_or-set_same}
-use Rattle.tn_base.specs.declared.event.Event.{Event}
 use Rattle.tn_base.specs.declared.event.Event.TheVariants as event
 use Rattle.tn_base.specs.declared.message.Letter.{Letter}
 use Rattle.tn_base.specs.Address.{has_thread, place_in_tile}
-use Rattle.tn_base.specs.Parts.{part_count, visited}
+use Rattle.tn_base.specs.Parts.{visited}
 use Rattle.tn_detect.specs.declared.phase.Phase.TheVariants as phase
 use Rattle.tn_detect.specs.declared.state.DetectorState.{DetectorState}
 use Rattle.tn_detect.specs.DetectorView.{DetectorView, with_now as detector_with_now}
 use Rattle.tn_detect.specs.Notes.{answer_of, value_of}
 use Rattle.tn_detect.specs.Rows.{announced as detector_announced}
-use Rattle.tn_host.specs.HostView.{HostState}
 use Rattle.tn_host.specs.Script.{past_await}
 use Rattle.tn_node.specs.Deed as deed
 use Rattle.tn_quiet.specs.Law.{IsQuietWorld}
@@ -26,27 +23,24 @@ use Rattle.tn_rows.specs.Events.{happened}
 use Rattle.tn_rows.specs.PartView.{PartView, TileV, HostV, DetectorV, AbsentV}
 use Rattle.tn_rows.specs.Places.{detector_part}
 use Rattle.tn_rows.specs.WorldView.{WorldView}
-use Rattle.tn_thread.specs.declared.thread.Thread.{Thread}
-use Rattle.tn_tile.specs.Rows.{released as tile_released, told}
+use Rattle.tn_tile.specs.Rows.{told}
 use Rattle.tn_tile.specs.Step.{no_thread, thread_at}
 use Rattle.tn_letters.specs.declared.steps.BagStep.{BagStep}
-use Rattle.tn_letters.specs.declared.steps.BagStep.TheVariants as bag
 use Rattle.tn_letters.specs.Law.{dropped_in}
-use Rattle.tn_letters.specs.Letters.{SameBag}
-use Rattle.tn_letters.specs.Machine.{BagRun, IsAtRest, addresses, announced, answer}
+use Rattle.tn_letters.specs.Machine.{announced, answer}
 use Rattle.tn_letters.specs.Settled.{detector_in, detector_on, released_from, released_part, settled, settled_in}
 use Rattle.tn_letters.specs.Standing.{standing_letters}
-use Rattle.tn_letters.specs.State.{BagState, Same}
+use Rattle.tn_letters.specs.State.{Same}
 use Rattle.tn_letters.specs.Steps.{event_steps, part_steps}
-use Rattle.tn_letters.specs.Tiles.{held_of, host_in, host_on, part_for, program_of, reach_of, thread_of, tile_in}
-use Rattle.tn_letters.proofs.Arrives.{Arrives, later, state}
+use Rattle.tn_letters.specs.Tiles.{host_in, host_on, part_for, program_of, reach_of, thread_of, tile_in}
+use Rattle.tn_letters.proofs.Arrives.{Arrives, later}
 use Rattle.tn_letters.proofs.Bare.{alike_dropped, alike_means, flight_match, held_match, program_match, with_parts}
 use Rattle.tn_letters.proofs.Detected.{Alone, alone}
-use Rattle.tn_letters.proofs.Empty.{Seat, at_rest, host_there, seat}
+use Rattle.tn_letters.proofs.Empty.{at_rest, host_there, seat}
 use Rattle.tn_letters.proofs.Lift.{Good, OnPart}
 use Rattle.tn_letters.proofs.Carried.{rest_detector}
 use Rattle.tn_letters.proofs.Runs.{same_refl}
-use Rattle.tn_letters.proofs.Settling.{released_behind, settled_dropped, settled_means}
+use Rattle.tn_letters.proofs.Settling.{released_behind, settled_means}
 use Rattle.tn_letters.proofs.Silent.{NoRelease, detector_is, detector_visits, one_alike, settled_now}
 use Rattle.tn_letters.proofs.Simulate.{shown}
 use Rattle.tn_letters.proofs.Votes.{value_same}

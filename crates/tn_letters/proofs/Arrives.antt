@@ -9,13 +9,12 @@ use Rattle.tn_letters.specs.declared.steps.BagStep.{BagStep}
 use Rattle.tn_letters.specs.declared.steps.BagStep.TheVariants as bag
 use Rattle.tn_letters.specs.declared.steps.Seen.{Seen}
 use Rattle.tn_letters.specs.Law.{dropped_in}
-use Rattle.tn_letters.specs.Machine.{Allows, BagRun, Happens, IsAllowed, IsAtRest, MayStep, announced, ended_by, own_step, sent_by, with_own_step}
+use Rattle.tn_letters.specs.Machine.{Allows, BagRun, Happens, IsAllowed, MayStep, announced, ended_by, own_step, sent_by, with_own_step}
 use Rattle.tn_letters.specs.Settled.{detector_on, settled}
 use Rattle.tn_detect.specs.Notes.{value_of}
 use Rattle.tn_letters.specs.State.{BagState, Program, Same}
 use Rattle.tn_letters.specs.Tiles.{program_of}
 use Rattle.tn_letters.proofs.Bare.{alike_dropped, alike_means, alike_shown, program_match}
-use Rattle.tn_letters.proofs.Lift.{Good}
 use Rattle.tn_letters.proofs.Runs.{run_join, same_refl}
 use Rattle.tn_letters.proofs.Settling.{settled_dropped, settled_program}
 use Rattle.tn_letters.proofs.Silent.{Silent}

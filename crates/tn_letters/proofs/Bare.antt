@@ -1,5 +1,5 @@
 -- What a machine means does not depend on what the detector asks of its parts: counters, colours, holds, and the detector itself.
-use Rattle.std.proofs.Common.{ℕ, ◌≡◌, zero, suc, List, [], ◌∷◌, length, get_or, map, refl, sym, ◌∙◌, ap, arith, pos, false, sum_by, Option}
+use Rattle.std.proofs.Common.{ℕ, ◌≡◌, suc, List, [], ◌∷◌, length, get_or, map, refl, sym, ◌∙◌, ap, arith, pos, false, sum_by}
 use Rattle.std.specs.List.{range_with_len}
 use Rattle.std.proofs.lemmas.List.Sums.{sum_by-cons}
 use Rattle.tn_base.specs.declared.message.Letter.{Letter}
@@ -8,22 +8,19 @@ use Rattle.tn_base.specs.Address.{place_in_tile}
 use Rattle.tn_base.specs.Parts.{board_count, part_count, router_part}
 use Rattle.tn_detect.specs.DetectorView.{fresh_detector}
 use Rattle.tn_host.specs.Rows.{with_node as host_with_node}
-use Rattle.tn_host.specs.HostView.{HostState}
 use Rattle.tn_keys.specs.Copies.{each_below}
 use Rattle.tn_keys.specs.Reach.{Reach, reach}
-use Rattle.tn_keys.specs.Tables.{Table}
 use Rattle.tn_node.specs.declared.node.Node.{Node}
 use Rattle.tn_router.specs.Rows.{with_node as router_with_node}
 use Rattle.tn_router.specs.RouterView.{with_now as router_with_now}
 use Rattle.tn_rows.specs.PartView.{PartView, TileV, RouterV, LinkV, HostV, DetectorV, AbsentV}
 use Rattle.tn_rows.specs.WorldView.{WorldView}
-use Rattle.tn_thread.specs.declared.thread.Thread.{Thread}
 use Rattle.tn_tile.specs.Rows.{with_node}
-use Rattle.tn_tile.specs.TileView.{TileView, with_now}
+use Rattle.tn_tile.specs.TileView.{with_now}
 use Rattle.tn_letters.specs.declared.place.Place.{Place}
-use Rattle.tn_letters.specs.Law.{dropped_in, dropped_on}
+use Rattle.tn_letters.specs.Law.{dropped_on}
 use Rattle.tn_letters.specs.Standing.{part_standing, standing_letters, standing_on}
-use Rattle.tn_letters.specs.Tiles.{beats_on, held_in, held_of, host_in, host_on, part_for, program_of, reach_of, tables_of, thread_in, thread_of, tile_for, tile_in}
+use Rattle.tn_letters.specs.Tiles.{beats_on, held_in, held_of, host_in, part_for, program_of, reach_of, tables_of, thread_in, tile_in}
 use Rattle.tn_letters.proofs.Simulate.{shown}
 
 abbrev pub bare_node : Node → Node

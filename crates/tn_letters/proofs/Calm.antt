@@ -1,11 +1,10 @@
 -- A machine at its start is one of which the detector's invariant holds.
-use Rattle.std.proofs.Common.{ℕ, zero, suc, ◌≡◌, ◌<◌, ◌+◌, List, [], ◌∷◌, length, get_or, map, refl, sym, ◌∙◌, ap, subst, arith, pos, cond, Bool, true, false, Option, Some, None, option_map, slice_get}
+use Rattle.std.proofs.Common.{ℕ, zero, suc, ◌≡◌, ◌+◌, length, refl, sym, ◌∙◌, ap, subst, pos, cond, Bool, true, false, Option, Some, None, option_map, slice_get}
 use Rattle.std.specs.Prelude.{nat_lt}
 use Rattle.std.proofs.lemmas.List.{length-replicate}
 use Rattle.std.proofs.lemmas.Option.{get_or_from_slice_get, slice_get_within, slice_get-map}
 use Rattle.tn_base.specs.declared.shape.ShapeNumbers.{ShapeNumbers}
-use Rattle.tn_base.specs.Parts.{part_count, visited}
-use Rattle.tn_detect.specs.declared.phase.Phase.TheVariants as phase
+use Rattle.tn_base.specs.Parts.{visited}
 use Rattle.tn_detect.specs.declared.state.DetectorState.{DetectorState}
 use Rattle.tn_detect.specs.DetectorView.{DetectorView, fresh_state}
 use Rattle.tn_detect.specs.Reports.{report_at}

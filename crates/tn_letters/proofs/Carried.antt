@@ -1,9 +1,8 @@
 -- An event in which the detector has no part is the same event of the machine with the release carried through.
-use Rattle.std.proofs.Common.{ℕ, ◌≡◌, ◌≢◌, ◌<◌, ◌≤◌, ◌+◌, List, [], ◌∷◌, length, get_or, set, Bool, true, false, refl, sym, ◌∙◌, ap, subst, arith, Option, Some, None, inl, inr, option_map, slice_get}
-use Rattle.std.specs.Prelude.{nat_lt, option_and_then}
+use Rattle.std.proofs.Common.{ℕ, ◌≡◌, ◌<◌, List, Bool, true, false, refl, sym, ◌∙◌, ap, subst, arith, Option, Some, None, inl, inr, option_map, slice_get}
+use Rattle.std.specs.Prelude.{option_and_then}
 use Rattle.std.proofs.lemmas.Bool.{cases_lt, lt-ltb}
-use Rattle.std.proofs.lemmas.List.{get_or-set_other}
-use Rattle.std.proofs.lemmas.Option.{get_or_from_slice_get, slice_get-map, slice_get_within}
+use Rattle.std.proofs.lemmas.Option.{get_or_from_slice_get, slice_get-map}
 use Rattle.tn_base.specs.declared.event.Event.{Event}
 use Rattle.tn_base.specs.declared.event.Event.TheVariants as event
 use Rattle.tn_base.specs.declared.message.Letter.{Letter}
@@ -12,11 +11,10 @@ use Rattle.tn_base.specs.Parts.{kind_of, visited}
 use Rattle.tn_detect.specs.declared.phase.Phase.{Phase}
 use Rattle.tn_detect.specs.declared.phase.Phase.TheVariants as phase
 use Rattle.tn_detect.specs.declared.state.DetectorState.{DetectorState}
-use Rattle.tn_detect.specs.DetectorView.{DetectorView}
 use Rattle.tn_detect.specs.Notes.{value_of}
 use Rattle.tn_quiet.specs.Law.{IsQuietWorld, IsStep}
 use Rattle.tn_quiet.specs.Machine.{as_rest, link_count, rest_of, shown as shown_parts, shows}
-use Rattle.tn_quiet.proofs.Machines.{AtOne, at_last, at_one, by_test, steps as rest_steps}
+use Rattle.tn_quiet.proofs.Machines.{at_last, at_one, steps as rest_steps}
 use Rattle.tn_quiet.proofs.Runs.{kept_at}
 use Rattle.tn_quiet.proofs.Tiles.{kept_by}
 use Rattle.tn_rest.specs.Happens.{Announce, Arrive, Begin, Confirm, Depart, Go, Happens, Release, Report, RestEvent, Work}
@@ -25,14 +23,14 @@ use Rattle.tn_rest.specs.RestView.{RestView}
 use Rattle.tn_rest.specs.Seen.{detector_of, seen}
 use Rattle.tn_rest.proofs.Seen.{happens}
 use Rattle.tn_rows.specs.Events.{after, happened, happened_at, with_part}
-use Rattle.tn_rows.specs.PartView.{PartView, DetectorV, AbsentV}
+use Rattle.tn_rows.specs.PartView.{DetectorV, AbsentV}
 use Rattle.tn_rows.specs.Places.{One, at_part, detector_part, is_router, one_if, part_of, places}
 use Rattle.tn_rows.specs.WorldView.{WorldView}
 use Rattle.tn_stamp.specs.declared.entry.Crossing.TheVariants as crossing
 use Rattle.tn_letters.specs.declared.steps.BagStep.{BagStep}
 use Rattle.tn_letters.specs.Settled.{detector_in, detector_on, released_from, settled, settled_in}
 use Rattle.tn_letters.specs.Steps.{event_steps, part_steps, steps_at}
-use Rattle.tn_letters.specs.Tiles.{beats_on, reach_of}
+use Rattle.tn_letters.specs.Tiles.{reach_of}
 use Rattle.tn_letters.proofs.Bare.{reach_match, with_parts}
 use Rattle.tn_letters.proofs.Detected.{last_part}
 use Rattle.tn_letters.proofs.GoodParts.{good_settled}

@@ -1,32 +1,24 @@
 -- What the events of the detector make of a machine: of a part, and of the detector.
-use Rattle.std.proofs.Common.{ℕ, ◌≡◌, ◌<◌, ◌+◌, length, List, [], ◌∷◌, get_or, set, refl, sym, ◌∙◌, ap, subst, arith, Option, Some, None, option_map, slice_get}
-use Rattle.std.specs.List.{AllByRecursion}
+use Rattle.std.proofs.Common.{ℕ, ◌≡◌, ◌<◌, ◌+◌, length, get_or, set, refl, ◌∙◌, ap, subst, arith, Option, Some, option_map, slice_get}
 use Rattle.std.specs.Prelude.{nat_lt}
-use Rattle.std.proofs.lemmas.List.{get_or-set_other, get_or-set_same, length-set}
 use Rattle.std.proofs.lemmas.Option.{get_or_from_slice_get, slice_get-get_or, slice_get_within}
 use Rattle.tn_base.specs.declared.event.Event.{Event}
 use Rattle.tn_base.specs.declared.event.Event.TheVariants as event
 use Rattle.tn_base.specs.declared.ids.PartId.{PartId}
-use Rattle.tn_base.specs.declared.part.Kind.{Kind}
 use Rattle.tn_base.specs.declared.part.Kind.TheVariants as kind
-use Rattle.tn_base.specs.declared.shape.ShapeNumbers.{ShapeNumbers}
-use Rattle.tn_base.specs.Parts.{kind_of, part_count, visited}
+use Rattle.tn_base.specs.Parts.{visited}
 use Rattle.tn_detect.specs.declared.state.DetectorState.{DetectorState}
 use Rattle.tn_detect.specs.DetectorView.{DetectorView, now_by as detector_now_by, with_now as detector_with_now}
-use Rattle.tn_host.specs.declared.script.ScriptItem.{ScriptItem}
-use Rattle.tn_host.specs.declared.script.ScriptItem.TheVariants as item
 use Rattle.tn_host.specs.HostView.{HostState}
 use Rattle.tn_host.specs.Rows.{gone_on as host_gone_on, host_deed, host_whitened}
-use Rattle.tn_host.specs.Script.{past_await}
 use Rattle.tn_host.proofs.Deeds.{confirm_deed as host_confirm, go_deed as host_go, release_deed as host_release, report_deed as host_report}
-use Rattle.tn_keys.specs.Tables.{Table}
 use Rattle.tn_node.specs.declared.facts.PartFacts.{PartFacts}
 use Rattle.tn_node.specs.Deed.{Deed}
 use Rattle.tn_node.specs.Deed as deed
 use Rattle.tn_quiet.specs.Law.{IsQuietWorld}
 use Rattle.tn_quiet.specs.Machine.{link_count}
 use Rattle.tn_quiet.proofs.Detectors.{detector_does}
-use Rattle.tn_quiet.proofs.Machines.{AtOne, AtTwo, WithDetector, at_one, by_detector, fits_at}
+use Rattle.tn_quiet.proofs.Machines.{WithDetector, at_one, by_detector}
 use Rattle.tn_quiet.proofs.PartKinds.{detector_last}
 use Rattle.tn_quiet.proofs.Parts.{IsDetectorPart, IsVisitedPart, confirm_part, go_part, release_part, report_part}
 use Rattle.tn_quiet.proofs.Tiles.{kept_by}
@@ -34,7 +26,7 @@ use Rattle.tn_router.specs.declared.state.RouterState.{RouterState}
 use Rattle.tn_router.specs.Rows.{gone_on as router_gone_on, router_deed, router_whitened}
 use Rattle.tn_router.specs.RouterView.{RouterView, now_by as router_now_by, with_now as router_with_now}
 use Rattle.tn_router.proofs.Deeds.{confirm_deed as router_confirm, go_deed as router_go, release_deed as router_release, report_deed as router_report}
-use Rattle.tn_rows.specs.DetectorDeed.{DetectorDoes, detector_deed}
+use Rattle.tn_rows.specs.DetectorDeed.{DetectorDoes}
 use Rattle.tn_rows.specs.Events.{after, detector_did, happened, happened_at, plain_deed}
 use Rattle.tn_rows.specs.PartView.{PartView, TileV, RouterV, LinkV, HostV, DetectorV, AbsentV}
 use Rattle.tn_rows.specs.Places.{One, detector_part, two_if}
@@ -42,16 +34,13 @@ use Rattle.tn_rows.specs.WorldView.{WorldView}
 use Rattle.tn_rows.proofs.Meeting.{meeting}
 use Rattle.tn_stamp.specs.declared.entry.Crossing.{Crossing}
 use Rattle.tn_stamp.specs.declared.entry.Crossing.TheVariants as crossing
-use Rattle.tn_tile.specs.Rows.{gone_on, released as tile_released, tile_deed, tile_facts, tile_whitened}
+use Rattle.tn_tile.specs.Rows.{gone_on, released as tile_released, tile_deed, tile_whitened}
 use Rattle.tn_tile.specs.declared.state.TileState.{TileState}
 use Rattle.tn_tile.specs.TileView.{TileView, now_by, with_now}
-use Rattle.tn_tile.proofs.Deeds.{confirm_deed, deed_fits, go_deed, release_deed, report_deed, tells_own}
-use Rattle.tn_letters.specs.Law.{IsSendable}
-use Rattle.tn_letters.specs.Settled.{detector_in, detector_on, released_part}
-use Rattle.tn_letters.specs.Tiles.{beats_on}
+use Rattle.tn_tile.proofs.Deeds.{confirm_deed, go_deed, release_deed, report_deed}
+use Rattle.tn_letters.specs.Settled.{released_part}
 use Rattle.tn_letters.proofs.Bare.{with_parts}
-use Rattle.tn_letters.proofs.Lift.{Good, GoodPart, OnPart, StandsAt, good_now, good_with, part_on, stands_on, still_tile}
-use Rattle.tn_letters.proofs.Routers.{still_router}
+use Rattle.tn_letters.proofs.Lift.{Good, OnPart, StandsAt, stands_on}
 
 -- ---- what a part becomes
 

@@ -1,18 +1,17 @@
 -- At rest no letter is in flight, and every thread is idle or has ended.
-use Rattle.std.proofs.Common.{ℕ, ◌≡◌, ◌≢◌, ◌<◌, ◌≤◌, ◌+◌, ◌-◌, ◌++◌, ◌==◌, zero, suc, List, [], ◌∷◌, length, get_or, map, cond, nat_lt, Bool, true, false, refl, sym, ◌∙◌, ap, subst, arith, IsTrue, Option, Some, None, is_none, option_map, slice_get, inl, inr}
+use Rattle.std.proofs.Common.{ℕ, ◌≡◌, ◌≢◌, ◌<◌, ◌≤◌, ◌+◌, ◌-◌, ◌++◌, ◌==◌, zero, suc, List, [], ◌∷◌, length, get_or, map, cond, Bool, true, refl, sym, ◌∙◌, ap, subst, arith, IsTrue, Option, Some, None, is_none, option_map, slice_get, inl, inr}
 use Rattle.std.specs.Int.{bit_at}
 use Rattle.std.specs.List.{flat_map, list_all, range_with_len}
-use Rattle.std.proofs.lemmas.Bool.{and_parts, cases_eq, cases_lt, lt-ltb}
+use Rattle.std.proofs.lemmas.Bool.{and_parts, cases_eq, lt-ltb}
 use Rattle.std.proofs.lemmas.Option.{slice_get-get_or, slice_get-map}
 use Rattle.tn_base.specs.declared.message.Letter.{Letter}
 use Rattle.tn_base.specs.declared.message.Packet.{Packet}
 use Rattle.tn_base.specs.declared.ids.TileId.{TileId}
 use Rattle.tn_base.specs.declared.part.Kind.{Kind}
 use Rattle.tn_base.specs.declared.part.Kind.TheVariants as kind
-use Rattle.tn_base.specs.declared.port.Port.{Port}
 use Rattle.tn_base.specs.declared.shape.ShapeNumbers.{ShapeNumbers}
 use Rattle.tn_base.specs.Address.{has_thread, in_tile, place_in_tile, tile_of, tile_place, tile_threads}
-use Rattle.tn_base.specs.Parts.{kind_of, part_count, tile_at, tile_part, visited}
+use Rattle.tn_base.specs.Parts.{kind_of, part_count, tile_at, visited}
 use Rattle.tn_base.proofs.TilePlaces.{fields, place_below, tile_found, tile_kind}
 use Rattle.tn_host.specs.HostView.{HostState}
 use Rattle.tn_host.specs.Script.{first_item, is_no_send}
@@ -20,14 +19,13 @@ use Rattle.tn_keys.specs.Copies.{each_below, only_if}
 use Rattle.tn_keys.specs.Reach.{Reach}
 use Rattle.tn_link.specs.LinkView.{LinkView}
 use Rattle.tn_node.proofs.PortLaws.{empty_at}
-use Rattle.tn_node.specs.PortRows.{all_empty, at}
+use Rattle.tn_node.specs.PortRows.{all_empty}
 use Rattle.tn_quiet.specs.Machine.{link_count, rest_of, shown as shown_parts, shows}
 use Rattle.tn_quiet.proofs.Machines.{at_last}
 use Rattle.tn_quiet.proofs.PartKinds.{detector_last}
 use Rattle.tn_rest.specs.declared.facts.Facts.{Facts}
 use Rattle.tn_rest.specs.Quiet.{IsAtRest as IsRest}
 use Rattle.tn_rest.specs.Seen.{facts_of, no_facts, packets_of}
-use Rattle.tn_router.specs.declared.work.Work.{Work}
 use Rattle.tn_router.specs.Rows.{is_still as router_still}
 use Rattle.tn_router.specs.RouterView.{RouterView}
 use Rattle.tn_rows.specs.PartView.{PartView, TileV, RouterV, LinkV, HostV, DetectorV, AbsentV}
@@ -35,16 +33,15 @@ use Rattle.tn_rows.specs.WorldView.{WorldView}
 use Rattle.tn_slots.specs.Pool.{queue_at, slot_at}
 use Rattle.tn_slots.specs.WellKept.{times}
 use Rattle.tn_thread.specs.declared.thread.Thread.{Thread}
-use Rattle.tn_tile.specs.Step.{no_thread, pending_at, thread_at}
+use Rattle.tn_tile.specs.Step.{no_thread, thread_at}
 use Rattle.tn_tile.specs.Still.{does_nothing, is_nil, is_still}
 use Rattle.tn_tile.specs.TileView.{TileView}
 use Rattle.tn_tile.proofs.Deeds.{StillParts, still_parts}
 use Rattle.tn_letters.specs.declared.place.Place.{Place}
 use Rattle.tn_letters.specs.declared.place.Place.TheVariants as place
-use Rattle.tn_letters.specs.Letters.{letter}
 use Rattle.tn_letters.specs.Machine.{IsAtRest}
-use Rattle.tn_letters.specs.Standing.{link_standing, out_by, out_standing, owed_standing, owed_to, part_standing, pending_of, pending_standing, ports, process_standing, slots_standing, standing, standing_letters, standing_on, tile_standing, transit_by, transit_standing, waiting, work_by, works_from, leaving_by}
-use Rattle.tn_letters.specs.Tiles.{host_in, host_on, letter_in, part_for, reach_of, thread_of, tile_for, tile_in}
+use Rattle.tn_letters.specs.Standing.{link_standing, out_by, out_standing, owed_standing, owed_to, part_standing, pending_of, pending_standing, ports, process_standing, slots_standing, standing_letters, standing_on, tile_standing, transit_by, transit_standing, waiting, work_by, works_from, leaving_by}
+use Rattle.tn_letters.specs.Tiles.{host_in, letter_in, part_for, reach_of, thread_of, tile_in}
 use Rattle.tn_letters.proofs.Lift.{Good, GoodTile, On, OnPart, StandsAt, part_on, stands_on}
 use Rattle.tn_letters.proofs.PartKinds.{RouterPart, TilePart, router_part_is, tile_part_is}
 use Rattle.tn_letters.proofs.Simulate.{shown}

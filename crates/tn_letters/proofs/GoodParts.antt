@@ -1,5 +1,5 @@
 -- What holds of every part holds of it after an event of the detector, and once a release is carried through.
-use Rattle.std.proofs.Common.{ℕ, ◌≡◌, ◌<◌, Some, List, [], ◌∷◌, length, get_or, set, refl, sym, ◌∙◌, ap, subst, arith, inl, inr}
+use Rattle.std.proofs.Common.{ℕ, ◌≡◌, Some, List, [], ◌∷◌, get_or, refl, sym, ◌∙◌, ap, subst, arith, inl, inr}
 use Rattle.std.specs.List.{AllByRecursion}
 use Rattle.std.proofs.lemmas.Bool.{cases_lt}
 use Rattle.std.proofs.lemmas.List.{get_or-set_other, length-set}
@@ -8,7 +8,7 @@ use Rattle.tn_base.specs.declared.event.Event.TheVariants as event
 use Rattle.tn_base.specs.declared.part.Kind.{Kind}
 use Rattle.tn_base.specs.declared.part.Kind.TheVariants as kind
 use Rattle.tn_base.specs.declared.shape.ShapeNumbers.{ShapeNumbers}
-use Rattle.tn_base.specs.Parts.{kind_of, part_count, visited}
+use Rattle.tn_base.specs.Parts.{kind_of}
 use Rattle.tn_detect.specs.declared.phase.Phase.{Phase}
 use Rattle.tn_detect.specs.declared.phase.Phase.TheVariants as phase
 use Rattle.tn_detect.specs.DetectorView.{DetectorView, with_now as detector_with_now}
@@ -30,7 +30,7 @@ use Rattle.tn_rows.specs.PartView.{PartView, TileV, RouterV, LinkV, HostV, Detec
 use Rattle.tn_rows.specs.Places.{detector_part}
 use Rattle.tn_rows.specs.WorldView.{WorldView}
 use Rattle.tn_tile.specs.Rows.{gone_on, released as tile_released, tile_facts, tile_whitened}
-use Rattle.tn_tile.specs.TileView.{TileView, with_now}
+use Rattle.tn_tile.specs.TileView.{with_now}
 use Rattle.tn_tile.proofs.Deeds.{deed_fits, tells_own}
 use Rattle.tn_letters.specs.Law.{IsSendable}
 use Rattle.tn_letters.specs.Settled.{detector_on, released_from, released_part, settled, settled_in}

@@ -1,10 +1,9 @@
 -- Each run of a machine from its start is a run of the bag machine.
-use Rattle.std.proofs.Common.{ℕ, ◌≡◌, ◌++◌, List, [], ◌∷◌, length, refl, sym, ◌∙◌, ap, subst, arith, Bool, true, false, Option, Some, option_map, unwrap_or}
+use Rattle.std.proofs.Common.{ℕ, ◌≡◌, ◌++◌, List, [], ◌∷◌, refl, sym, ap, subst, arith, Bool, true, false, Option, Some, option_map, unwrap_or}
 use Rattle.std.specs.Prelude.{count_by, nat_lt}
 use Rattle.tn_base.specs.declared.event.Event.{Event}
 use Rattle.tn_base.specs.declared.event.Event.TheVariants as event
 use Rattle.tn_base.specs.declared.message.Letter.{Letter}
-use Rattle.tn_base.specs.declared.shape.ShapeNumbers.{ShapeNumbers}
 use Rattle.tn_base.specs.Parts.{visited}
 use Rattle.tn_node.specs.Deed as deed
 use Rattle.tn_quiet.specs.Law.{IsQuietWorld}
@@ -17,8 +16,6 @@ use Rattle.tn_rows.specs.WorldView.{WorldView}
 use Rattle.tn_letters.specs.declared.steps.BagStep.{BagStep}
 use Rattle.tn_letters.specs.Law.{IsBagRun, IsStart}
 use Rattle.tn_letters.specs.Machine.{BagRun}
-use Rattle.tn_letters.specs.Settled.{settled}
-use Rattle.tn_letters.specs.Standing.{bag_at}
 use Rattle.tn_letters.specs.State.{BagState, Program}
 use Rattle.tn_letters.specs.Steps.{bag_of, event_steps, meeting_steps, part_steps, steps_at}
 use Rattle.tn_letters.specs.Tiles.{program_of, reach_of}
@@ -31,7 +28,6 @@ use Rattle.tn_letters.proofs.GoodParts.{event_good}
 use Rattle.tn_letters.proofs.Lift.{Good}
 use Rattle.tn_letters.proofs.Settling.{bag_is}
 use Rattle.tn_letters.proofs.Silent.{Silent, begin_silent, confirm_silent, go_silent, release_silent, report_silent}
-use Rattle.tn_letters.proofs.Simulate.{shown}
 use Rattle.tn_letters.proofs.Starts.{good_start, sum_nothing}
 use Rattle.tn_letters.proofs.Walks.{Plain, run_walk}
 

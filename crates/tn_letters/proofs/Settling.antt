@@ -1,7 +1,6 @@
 -- A machine with its release carried through: what its parts are, and what stays.
-use Rattle.std.proofs.Common.{ℕ, ◌≡◌, ◌<◌, ◌≤◌, zero, suc, List, [], ◌∷◌, length, get_or, set, map, slice_get, refl, sym, ◌∙◌, ap, subst, arith, Option, Some, inl, inr, sum_by}
+use Rattle.std.proofs.Common.{ℕ, ◌≡◌, ◌<◌, ◌≤◌, zero, suc, List, [], ◌∷◌, length, get_or, set, slice_get, refl, ◌∙◌, ap, arith, inl, inr, sum_by}
 use Rattle.std.proofs.lemmas.Bool.{cases_lt}
-use Rattle.tn_base.specs.declared.message.Letter.{Letter}
 use Rattle.tn_base.specs.declared.shape.ShapeNumbers.{ShapeNumbers}
 use Rattle.tn_detect.specs.declared.phase.Phase.{Phase}
 use Rattle.tn_detect.specs.declared.phase.Phase.TheVariants as phase
@@ -12,9 +11,8 @@ use Rattle.tn_rows.specs.WorldView.{WorldView}
 use Rattle.tn_letters.specs.Law.{dropped_on}
 use Rattle.tn_letters.specs.Settled.{detector_on, released_from, released_part, settled, settled_in}
 use Rattle.tn_letters.specs.Standing.{bag_at, part_standing}
-use Rattle.tn_letters.specs.State.{BagState}
 use Rattle.tn_letters.specs.Tiles.{beats_on, held_in, host_in, host_on, program_of, thread_of, tile_in}
-use Rattle.tn_letters.proofs.Bare.{Match, Means, dropped_match, flight_match, held_match, program_match, with_parts}
+use Rattle.tn_letters.proofs.Bare.{Means, dropped_match, flight_match, held_match, program_match}
 use Rattle.tn_letters.proofs.Simulate.{shown}
 
 -- ---- the parts

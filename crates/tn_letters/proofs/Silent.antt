@@ -1,9 +1,7 @@
 -- The events of the detector, but for the announcement, are no step of the bag machine.
-use Rattle.std.proofs.Common.{ℕ, ◌≡◌, ◌≢◌, ◌<◌, ◌≤◌, ◌+◌, ◌==◌, List, [], ◌∷◌, length, get_or, set, cond, Bool, true, false, refl, sym, ◌∙◌, ap, subst, arith, Some, None, inl, inr, slice_get}
+use Rattle.std.proofs.Common.{ℕ, ◌≡◌, ◌≢◌, ◌<◌, ◌≤◌, ◌+◌, ◌==◌, List, length, get_or, set, cond, Bool, true, false, refl, sym, ◌∙◌, ap, subst, arith, inl, inr}
 use Rattle.std.proofs.lemmas.Bool.{cases_eq, cases_lt, eqb-true}
 use Rattle.std.proofs.lemmas.List.{get_or-set_other, get_or-set_same, get_or_past, length-set}
-use Rattle.tn_base.specs.declared.event.Event.{Event}
-use Rattle.tn_base.specs.declared.event.Event.TheVariants as event
 use Rattle.tn_base.specs.declared.part.Kind.{Kind}
 use Rattle.tn_base.specs.declared.part.Kind.TheVariants as kind
 use Rattle.tn_base.specs.Parts.{kind_of, part_count, visited}
@@ -13,24 +11,23 @@ use Rattle.tn_detect.specs.declared.facts.PartView.{PartView as Told}
 use Rattle.tn_detect.specs.declared.state.DetectorState.{DetectorState}
 use Rattle.tn_detect.specs.DetectorView.{DetectorView, with_now as detector_with_now}
 use Rattle.tn_detect.specs.Notes.{value_of}
-use Rattle.tn_detect.specs.Rows.{behind_go, behind_release, confirmed, failed, passed}
+use Rattle.tn_detect.specs.Rows.{behind_release, failed, passed}
 use Rattle.tn_node.specs.declared.facts.PartFacts.{PartFacts}
 use Rattle.tn_node.specs.Deed.{Deed}
 use Rattle.tn_node.specs.Deed as deed
 use Rattle.tn_quiet.specs.Law.{IsQuietWorld}
-use Rattle.tn_quiet.specs.Machine.{link_count}
 use Rattle.tn_quiet.proofs.PartKinds.{IsBehind, behind_kind, detector_last}
 use Rattle.tn_rest.proofs.RowsTell.{begin_tells, confirm_tells, go_tells, release_tells, report_tells}
-use Rattle.tn_rows.specs.DetectorDeed.{DetectorDoes, view_of}
-use Rattle.tn_rows.specs.Events.{FitsKind, happened}
+use Rattle.tn_rows.specs.DetectorDeed.{view_of}
+use Rattle.tn_rows.specs.Events.{FitsKind}
 use Rattle.tn_rows.specs.PartView.{PartView, TileV, RouterV, LinkV, HostV, DetectorV, AbsentV}
 use Rattle.tn_rows.specs.Places.{detector_part}
 use Rattle.tn_rows.specs.WorldView.{WorldView}
 use Rattle.tn_letters.specs.Settled.{detector_in, detector_on, released_from, released_part, settled, settled_in}
 use Rattle.tn_letters.proofs.Bare.{Alike, bare, with_parts}
-use Rattle.tn_letters.proofs.Detected.{Alone, Paired, alone, confirm_paired, go_paired, going_part, release_paired, report_paired, whitened_part}
-use Rattle.tn_letters.proofs.Lift.{Good, OnPart, StandsAt, stands_on}
-use Rattle.tn_letters.proofs.Settling.{released_before, released_behind, released_length, settled_length}
+use Rattle.tn_letters.proofs.Detected.{Alone, Paired, going_part, whitened_part}
+use Rattle.tn_letters.proofs.Lift.{Good, OnPart, StandsAt}
+use Rattle.tn_letters.proofs.Settling.{released_before, released_behind, released_length}
 
 -- ---- a phase without a release
 

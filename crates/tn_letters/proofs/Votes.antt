@@ -1,25 +1,21 @@
 -- The detector's answer is that of all threads: whether those that have not ended vote for the end.
-use Rattle.std.proofs.Common.{ℕ, ◌≡◌, ◌<◌, ◌≤◌, ◌+◌, ◌&&◌, ◌||◌, zero, suc, List, [], ◌∷◌, length, get_or, map, cond, nat_lt, not, Bool, true, false, refl, sym, ◌∙◌, ap, subst, arith, IsTrue, Option, Some, None, option_map, slice_get, inl, inr}
-use Rattle.std.specs.List.{list_all, list_any, range_with_len}
+use Rattle.std.proofs.Common.{ℕ, ◌≡◌, ◌<◌, ◌+◌, ◌&&◌, ◌||◌, zero, suc, List, [], ◌∷◌, length, get_or, cond, nat_lt, not, Bool, true, false, refl, sym, ◌∙◌, ap, subst, arith, IsTrue, Option, Some, None, option_map, slice_get, inl, inr}
+use Rattle.std.specs.List.{list_all, list_any}
 use Rattle.std.proofs.lemmas.Bool.{and_parts, cases_lt}
-use Rattle.std.proofs.lemmas.Option.{slice_get-map, get_or_from_slice_get, slice_get_within}
+use Rattle.std.proofs.lemmas.Option.{slice_get-map}
 use Rattle.tn_base.specs.declared.shape.ShapeNumbers.{ShapeNumbers}
-use Rattle.tn_base.specs.declared.part.Kind.{Kind}
-use Rattle.tn_base.specs.declared.part.Kind.TheVariants as kind
-use Rattle.tn_base.specs.Address.{has_thread, has_tile, in_tile, place_in_tile, thread_at as thread_address, tile_of, tile_place, tile_threads}
-use Rattle.tn_base.specs.Parts.{kind_of, part_count, tile_part, visited}
+use Rattle.tn_base.specs.Address.{has_thread, has_tile, in_tile, place_in_tile, thread_at as thread_address, tile_place, tile_threads}
+use Rattle.tn_base.specs.Parts.{part_count, tile_part, visited}
 use Rattle.tn_base.specs.Shape.{thread_count}
 use Rattle.tn_base.proofs.Listing.{length_mapped, mapped_at}
 use Rattle.tn_base.proofs.Places.{orders_threads}
 use Rattle.tn_base.proofs.TilePlaces.{place_back, place_there}
-use Rattle.tn_detect.specs.declared.facts.Noted.{Noted}
-use Rattle.tn_detect.specs.declared.answer.Answer.TheVariants as answer_
 use Rattle.tn_detect.specs.Notes.{answer_of, value_of}
-use Rattle.tn_quiet.specs.Machine.{link_count, rest_of, shown as shown_parts, shows}
+use Rattle.tn_quiet.specs.Machine.{rest_of, shown as shown_parts, shows}
 use Rattle.tn_quiet.proofs.Machines.{at_last}
 use Rattle.tn_rest.specs.declared.facts.Facts.{Facts}
 use Rattle.tn_rest.specs.Quiet.{notes_of}
-use Rattle.tn_rest.specs.Seen.{SeenPart, facts_of, no_facts}
+use Rattle.tn_rest.specs.Seen.{facts_of, no_facts}
 use Rattle.tn_rows.specs.PartView.{PartView, TileV, RouterV, LinkV, HostV, DetectorV, AbsentV}
 use Rattle.tn_rows.specs.WorldView.{WorldView}
 use Rattle.tn_thread.specs.declared.state.ThreadState.{ThreadState}
@@ -27,11 +23,11 @@ use Rattle.tn_thread.specs.declared.state.ThreadState.TheVariants as state
 use Rattle.tn_thread.specs.declared.thread.Thread.{Thread}
 use Rattle.tn_tile.specs.Receivers.{is_dead}
 use Rattle.tn_tile.specs.Step.{no_thread, thread_at}
-use Rattle.tn_tile.specs.Still.{all_vote, has_live, votes_for}
+use Rattle.tn_tile.specs.Still.{all_vote, votes_for}
 use Rattle.tn_tile.specs.TileView.{TileView}
 use Rattle.tn_letters.specs.Machine.{addresses}
-use Rattle.tn_letters.specs.Tiles.{part_for, thread_of, tile_for, tile_in}
-use Rattle.tn_letters.proofs.Empty.{Seat, all_at, on_place, part_facts, seat}
+use Rattle.tn_letters.specs.Tiles.{part_for, thread_of}
+use Rattle.tn_letters.proofs.Empty.{all_at, on_place, part_facts, seat}
 use Rattle.tn_letters.proofs.Lift.{Good, GoodTile, On, OnPart, part_on, tile_is}
 
 -- ---- two tests that hold together

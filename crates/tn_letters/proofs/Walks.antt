@@ -50,7 +50,7 @@ use Rattle.tn_rows.specs.Places.{Places, Nowhere, One, Two, leads_from, leads_to
 use Rattle.tn_stamp.specs.declared.entry.Crossing.{Crossing}
 use Rattle.tn_stamp.specs.declared.entry.Crossing.TheVariants as crossing
 use Rattle.tn_rows.specs.Runs.{Run, Walk}
-use Rattle.tn_letters.specs.Steps.{bag_of, delivery_steps, event_steps, meeting_steps, part_steps, put_steps, steps_at, take_steps, taking_steps, tile_steps, turn_steps}
+use Rattle.tn_letters.specs.Steps.{delivery_steps, event_steps, meeting_steps, part_steps, put_steps, steps_at, take_steps, taking_steps, tile_steps, turn_steps}
 use Rattle.tn_letters.proofs.Delivery.{delivery_reached}
 use Rattle.tn_letters.proofs.Simulate.{Place, Reached, shown}
 use Rattle.tn_letters.proofs.Threads.{step_reached}
