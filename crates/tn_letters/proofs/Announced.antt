@@ -130,3 +130,17 @@ announce_arrives got dropped k w new g q h =
       program = ap program_of a.is ∙ program_match w ys one;
       count = let c : dropped_in new ≡ dropped_in w = ap dropped_in a.is ∙ alike_dropped w.parts ys (one_alike w a.detector t a.detector_on) in omega arith;
     })
+
+-- each thread that was idle has the announced value, with the release carried through
+pub thread_learns : (w new : WorldView) (a : ℕ) → Good w → IsQuietWorld w → happened event.Announce w ≡ Some new → IsTrue (has_thread w.shape a) → (new.shape ≡ w.shape) × (thread_of (settled new) a ≡ told (value_of (detector_on new).answer) (thread_of w a))
+thread_learns w new a g q h there =
+    let r : Alone w new deed.Announce = alone event.Announce deed.Announce w new g h refl in
+    let s = r.detector.now in
+    let u = announce_tells r.detector.visited s r.behind r.does in
+    let t = detector_with_now r.detector r.behind in
+    let ys = set w.parts (detector_part w.shape) (DetectorV t) in
+    let value = value_of (Some (answer_of s.noted)) in
+    let next : detector_on (with_parts w ys) ≡ detector_announced s = ap detector_in (get_or-set_same w.parts (detector_part w.shape) (DetectorV t) AbsentV r.detector_on.within) ∙ u.is in
+    let behind : settled new ≡ with_parts w (all_released w t value) = ap settled r.is ∙ ap (λ (d : DetectorState). with_parts w (settled_in d.phase (value_of d.answer) ys)) next in
+    let says : value_of (detector_on new).answer ≡ value = ap (λ (x : WorldView). value_of (detector_on x).answer) r.is ∙ ap (λ (d : DetectorState). value_of d.answer) next in
+    (ap (λ (x : WorldView). x.shape) r.is, ap (λ (x : WorldView). thread_of x a) behind ∙ (sym (thread_told w t value a g there) ∙ ap (λ v. told v (thread_of w a)) (sym says)))

@@ -72,7 +72,7 @@ rest_start w s g =
     let last = last_part w g in
     let fresh : last.0 ≡ _ = subst (StartsSo n) (get_or_from_slice_get w.parts (detector_part n) (DetectorV last.0) AbsentV last.1) (s.parts (detector_part n) (slice_get_within w.parts (detector_part n) (DetectorV last.0) last.1)) in
     let read : (rest_of w).detector ≡ fresh_state (visited n) =
-        ap (λ q. detector_of (slice_get (shown_parts w) q)) (at_last n g.limits) ∙ (ap detector_of (slice_get-map shows w.parts (detector_part n) ∙ ap (option_map shows) last.1) ∙ ap (λ (v : DetectorView). v.now) fresh) in
+    ap (λ q. detector_of (slice_get (shown_parts w) q)) (at_last n g.limits) ∙ (ap detector_of (slice_get-map shows w.parts (detector_part n) ∙ ap (option_map shows) last.1) ∙ ap (λ (v : DetectorView). v.now) fresh) in
     record {
       counters = λ k. (under FreshFacts (nat_lt k (visited n)) _ no_facts (at_place (λ o. FreshFacts (facts_of o)) w k (refl, refl) (fresh_facts n) s) (refl, refl)).0;
       free = λ k. (under FreshFacts (nat_lt k (visited n)) _ no_facts (at_place (λ o. FreshFacts (facts_of o)) w k (refl, refl) (fresh_facts n) s) (refl, refl)).1;

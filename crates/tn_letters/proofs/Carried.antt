@@ -7,7 +7,12 @@ use Rattle.tn_base.specs.declared.event.Event.{Event}
 use Rattle.tn_base.specs.declared.event.Event.TheVariants as event
 use Rattle.tn_base.specs.declared.message.Letter.{Letter}
 use Rattle.tn_base.specs.declared.shape.ShapeNumbers.{ShapeNumbers}
-use Rattle.tn_base.specs.Parts.{kind_of, visited}
+use Rattle.tn_base.specs.declared.ids.ThreadId.{ThreadId}
+use Rattle.tn_base.specs.Address.{has_thread, place_in_tile, tile_of, tile_place}
+use Rattle.tn_base.specs.Parts.{kind_of, tile_part, visited}
+use Rattle.tn_rest.proofs.RowsTell.{taken}
+use Rattle.tn_letters.specs.Tiles.{part_for, thread_in, thread_of, tile_in}
+use Rattle.tn_letters.proofs.Settling.{released_before}
 use Rattle.tn_detect.specs.declared.phase.Phase.{Phase}
 use Rattle.tn_detect.specs.declared.phase.Phase.TheVariants as phase
 use Rattle.tn_detect.specs.declared.state.DetectorState.{DetectorState}
@@ -189,14 +194,14 @@ released_reached got dropped e w new p i plain g below ph stays one =
     let value = value_of (detector_on w).answer in
     let here : settled w ≡ with_parts w (released_from i value w.parts) = ap (λ f. with_parts w (settled_in f value w.parts)) ph in
     let next : settled new ≡ with_part (with_parts w (released_from i value w.parts)) p a.behind =
-        ap (λ (d : DetectorState). with_parts new (settled_in d.phase (value_of d.answer) new.parts)) stays
-        ∙ (ap (λ f. with_parts new (settled_in f value new.parts)) ph
-        ∙ (ap (λ (x : WorldView). with_parts x (released_from i value x.parts)) a.is ∙ ap (with_parts w) (released_set i value w.parts p a.behind below))) in
+    ap (λ (d : DetectorState). with_parts new (settled_in d.phase (value_of d.answer) new.parts)) stays
+    ∙ (ap (λ f. with_parts new (settled_in f value new.parts)) ph
+    ∙ (ap (λ (x : WorldView). with_parts x (released_from i value x.parts)) a.is ∙ ap (with_parts w) (released_set i value w.parts p a.behind below))) in
     let mid : WorldView = with_parts w (released_from i value w.parts) in
     let good : Good mid = subst Good here (good_settled w g) in
     let reach : reach_of mid ≡ reach_of w = ap reach_of (sym here) ∙ reach_match w (settled w).parts (means_now w).beats in
     let r = by_part got dropped e mid (with_part mid p a.behind) p (slice_get w.parts p) plain good (released_get i value w.parts p below)
-        (ap (λ q. option_map (with_part mid p) (option_and_then (after e crossing.None) q)) a.was ∙ ap (option_map (with_part mid p)) a.row) in
+    (ap (λ q. option_map (with_part mid p) (option_and_then (after e crossing.None) q)) a.was ∙ ap (option_map (with_part mid p)) a.row) in
     subst (λ (x : WorldView). Reached got dropped x (event_steps e w) (settled new)) (sym here)
     (subst (λ (y : WorldView). Reached got dropped mid (event_steps e w) y) (sym next)
     (subst (λ (s : List BagStep). Reached got dropped mid s (with_part mid p a.behind)) (ap (λ r. part_steps r e (slice_get w.parts p)) reach ∙ sym one.steps) r))
@@ -211,6 +216,7 @@ plain_in got dropped e w new ph plain g h now stays one = by ph now one
     calm_reached calm =
         subst (λ (x : WorldView). Reached got dropped x (event_steps e w) (settled new)) (sym (settled_now w calm))
         (subst (λ (y : WorldView). Reached got dropped w (event_steps e w) y) (sym (settled_now new (subst (λ (d : DetectorState). NoRelease d.phase) (sym stays) calm))) (event_reached got dropped e w new plain g h))
+
     by : (ph : Phase) → (detector_on w).phase ≡ ph → ((i : ℕ) → ph ≡ phase.Release i → (p : ℕ) × OnOne e w new p × (p < i)) → Reached got dropped (settled w) (event_steps e w) (settled new)
     by phase.Collect now one = calm_reached (subst NoRelease (sym now) tt)
     by (phase.Confirm i) now one = calm_reached (subst NoRelease (sym now) tt)
@@ -226,8 +232,36 @@ plain_reached got dropped e w new plain g quiet then_ h =
     let shape = (kept_at e w new (places w.shape e) quiet.world h).1 in
     let rest = plain_rest w.shape e st.event plain st.is in
     let stays : detector_on new ≡ detector_on w =
-        sym (rest_detector new then_) ∙ (ap (λ (s : ShapeNumbers). (seen (visited s) (link_count s) (shown_parts new)).detector) shape ∙ (detector_stays n m st.event (rest_of w) (seen n m (shown_parts new)) rest hap ∙ rest_detector w g)) in
+    sym (rest_detector new then_) ∙ (ap (λ (s : ShapeNumbers). (seen (visited s) (link_count s) (shown_parts new)).detector) shape ∙ (detector_stays n m st.event (rest_of w) (seen n m (shown_parts new)) rest hap ∙ rest_detector w g)) in
     plain_in got dropped e w new (detector_on w).phase plain g h refl stays (λ i ph.
-        let releasing : IsReleasing i n m (rest_of w) = subst (λ f. InPhase f n m (rest_of w)) (ap (λ (d : DetectorState). d.phase) (rest_detector w g) ∙ ph) quiet.quiet.phase in
-        let x = works_before n m i st.event (rest_of w) (seen n m (shown_parts new)) rest releasing hap in
-        (x.0, on_one e w new x.0 plain h (st.is ∙ ap Some x.1), x.2))
+    let releasing : IsReleasing i n m (rest_of w) = subst (λ f. InPhase f n m (rest_of w)) (ap (λ (d : DetectorState). d.phase) (rest_detector w g) ∙ ph) quiet.quiet.phase in
+    let x = works_before n m i st.event (rest_of w) (seen n m (shown_parts new)) rest releasing hap in
+    (x.0, on_one e w new x.0 plain h (st.is ∙ ap Some x.1), x.2))
+
+-- ---- the thread that makes a turn
+
+thread_in_phase : (w : WorldView) (ph : Phase) (value p a : ℕ) → ((i : ℕ) → ph ≡ phase.Release i → p < i) → part_for w a ≡ p → thread_of (with_parts w (settled_in ph value w.parts)) a ≡ thread_of w a
+thread_in_phase w phase.Collect value p a before at = refl
+thread_in_phase w (phase.Confirm i) value p a before at = refl
+thread_in_phase w (phase.Release i) value p a before at =
+    ap (λ x. thread_in (tile_in x) (place_in_tile w.shape a)) (released_before i value w.parts (part_for w a) (subst (λ j. j < i) (sym at) (before i refl)))
+thread_in_phase w (phase.Go i) value p a before at = refl
+
+-- a thread that makes a turn is what it is with the release carried through
+pub turn_settled : (t : ThreadId) (k : ℕ) (w new : WorldView) → Good w → IsQuietWorld w → happened (event.Turn t k) w ≡ Some new → thread_of (settled w) t.0 ≡ thread_of w t.0
+turn_settled t k w new g quiet h =
+    let e : Event = event.Turn t k in
+    let st : IsStep e w new = rest_steps e w new g.limits quiet.world h in
+    let n = visited w.shape in
+    let m = link_count w.shape in
+    let hap = happens n m st.event (shown_parts w) (shown_parts new) st.steps in
+    let rest = plain_rest w.shape e st.event tt st.is in
+    let x = kept_by Work (part_of w.shape t) st.event st.is in
+    thread_in_phase w (detector_on w).phase (value_of (detector_on w).answer) x.0 t.0 (λ i ph.
+    let releasing : IsReleasing i n m (rest_of w) = subst (λ f. InPhase f n m (rest_of w)) (ap (λ (d : DetectorState). d.phase) (rest_detector w g) ∙ ph) quiet.quiet.phase in
+    let y = works_before n m i st.event (rest_of w) (seen n m (shown_parts new)) rest releasing hap in
+    subst (λ j. j < i) (same_work y.0 x.0 (sym y.1 ∙ x.2)) y.2)
+    (part_is w.shape t x.0 x.1)
+  where
+    part_is : (n : ShapeNumbers) (t : ThreadId) (p : ℕ) → part_of n t ≡ Some p → tile_part (tile_place n (tile_of t.0)) ≡ p
+    part_is n t p e = sym (taken (has_thread n t.0) (tile_part (tile_place n (tile_of t.0))) p e).1

@@ -90,10 +90,10 @@ tile_nothing n reach p v g still =
     let pending : pending_standing reach v ≡ [] = each_nothing (tile_threads v.plan.shape) (pending_of reach v) (λ k h. ap (waiting v.plan.shape reach _) (none_pending v.now.pending k s.pending)) in
     let transit : transit_standing reach p v ≡ [] = flat_nothing (transit_by reach p v) ports (λ way. ap (waiting v.plan.shape reach _) (empty_at way v.now.node.out s.out)) in
     let slots : slots_standing v ≡ [] = each_nothing (length v.now.pool.slots) (owed_standing v) (λ j h. each_nothing (tile_threads v.plan.shape) (owed_to v j) (λ k below.
-        let queues = g.shaped.fits.pool.queues in
-        let kept = g.kept.each k j (omega arith) in
-        let none : times j (queue_at v.now.pool k) ≡ 0 = ap (times j) (none_queued v.now.pool.queues k s.queues) in
-        owed_none v j k (omega arith))) in
+    let queues = g.shaped.fits.pool.queues in
+    let kept = g.kept.each k j (omega arith) in
+    let none : times j (queue_at v.now.pool k) ≡ 0 = ap (times j) (none_queued v.now.pool.queues k s.queues) in
+    owed_none v j k (omega arith))) in
     ap (λ xs. xs ++ transit_standing reach p v ++ slots_standing v) pending ∙ (ap (λ xs. xs ++ slots_standing v) transit ∙ slots)
 
 router_nothing : (n : ShapeNumbers) (reach : Reach) (p : ℕ) (v : RouterView) → router_still v.now ≡ true → part_standing n reach p (RouterV v) ≡ []

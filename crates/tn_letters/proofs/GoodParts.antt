@@ -86,6 +86,7 @@ whitened_keeps = record { good = good; stands = stands; beats = beats }
     good n t p (HostV s) g = g
     good n t p (DetectorV v) g = g
     good n t p AbsentV g = g
+
     stands : (k : Kind) (x : PartView) → StandsAt k x → StandsAt k (whitened_part x)
     stands k (TileV v) s = still_tile k v (with_now v (tile_whitened v.now)) refl s
     stands k (RouterV v) s = still_router k v _ s
@@ -93,6 +94,7 @@ whitened_keeps = record { good = good; stands = stands; beats = beats }
     stands k (HostV h) s = host_stands k h _ s
     stands k (DetectorV v) s = s
     stands k AbsentV s = s
+
     beats : (x : PartView) → beats_on (whitened_part x) ≡ beats_on x
     beats (TileV v) = refl
     beats (RouterV v) = refl
@@ -115,6 +117,7 @@ going_keeps = record { good = good; stands = stands; beats = beats }
     good n t p (HostV s) g = g
     good n t p (DetectorV v) g = g
     good n t p AbsentV g = g
+
     stands : (k : Kind) (x : PartView) → StandsAt k x → StandsAt k (going_part x)
     stands k (TileV v) s = still_tile k v (with_now v (gone_on v.now)) refl s
     stands k (RouterV v) s = still_router k v _ s
@@ -122,6 +125,7 @@ going_keeps = record { good = good; stands = stands; beats = beats }
     stands k (HostV h) s = host_stands k h _ s
     stands k (DetectorV v) s = s
     stands k AbsentV s = s
+
     beats : (x : PartView) → beats_on (going_part x) ≡ beats_on x
     beats (TileV v) = refl
     beats (RouterV v) = refl
@@ -144,6 +148,7 @@ released_keeps value = record { good = good value; stands = stands value; beats 
     good value n t p (HostV s) g = past_sendable n s.script g
     good value n t p (DetectorV v) g = g
     good value n t p AbsentV g = g
+
     stands : (value : ℕ) (k : Kind) (x : PartView) → StandsAt k x → StandsAt k (released_part value x)
     stands value k (TileV v) s = still_tile k v (with_now v (tile_released value v.now)) refl s
     stands value k (RouterV v) s = still_router k v _ s

@@ -37,5 +37,6 @@ pub mod Starts
 pub mod Sums
 pub mod Threads
 pub mod Votes
+pub mod Waiting
 pub mod Walks
 pub mod Weights

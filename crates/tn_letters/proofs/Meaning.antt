@@ -42,7 +42,7 @@ no_steps e w false p none = refl
 silent_arrives : (got : ℕ → List Letter) (dropped : List Letter) (k : ℕ) (w new : WorldView) (steps : List BagStep) → steps ≡ [] → Silent w new → Arrives got dropped k w steps new
 silent_arrives got dropped k w new steps none s = subst (λ (x : List BagStep). Arrives got dropped k w x new) (sym none) (arrives_silent got dropped k w new s)
 
-event_arrives : (got : ℕ → List Letter) (dropped : List Letter) (k : ℕ) (e : Event) (w new : WorldView) → Good w → IsQuietWorld w → happened e w ≡ Some new → Arrives got dropped k w (event_steps e w) new
+pub event_arrives : (got : ℕ → List Letter) (dropped : List Letter) (k : ℕ) (e : Event) (w new : WorldView) → Good w → IsQuietWorld w → happened e w ≡ Some new → Arrives got dropped k w (event_steps e w) new
 event_arrives got dropped k (event.Turn t n) w new g q h = plain_arrives got dropped k (event.Turn t n) w new tt g q h
 event_arrives got dropped k (event.Deliver t) w new g q h = plain_arrives got dropped k (event.Deliver t) w new tt g q h
 event_arrives got dropped k (event.Depart p l) w new g q h = plain_arrives got dropped k (event.Depart p l) w new tt g q h

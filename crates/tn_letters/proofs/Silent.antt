@@ -240,11 +240,11 @@ last_each w p value x v t j good on off inside last =
             ap bare (ap (λ i. get_or ys i AbsentV) here ∙ at_part w p x (released_part value x) t on (λ (e : p ≡ q). absurd (omega arith)))
             ∙ sym (ap bare (released_behind p value w.parts j behind ∙ ap (released_part value) (ap (λ i. get_or w.parts i AbsentV) here ∙ on.is)))
         | inr ne ↦ elim (cases_eq j q) [
-              | inl end ↦
-                  ap bare (ap (λ i. get_or ys i AbsentV) end ∙ at_detector w p x (released_part value x) v t on off)
-                  ∙ sym (ap bare (released_behind p value w.parts j behind) ∙ ap (λ y. bare (released_part value y)) (ap (λ i. get_or w.parts i AbsentV) end ∙ off.is))
-              | inr nq ↦ ap bare (at_other w p j (released_part value x) t ne nq ∙ (sym (unreleased_at w value j good (omega arith)) ∙ sym (released_behind p value w.parts j behind)))
-            ]
+          | inl end ↦
+              ap bare (ap (λ i. get_or ys i AbsentV) end ∙ at_detector w p x (released_part value x) v t on off)
+              ∙ sym (ap bare (released_behind p value w.parts j behind) ∙ ap (λ y. bare (released_part value y)) (ap (λ i. get_or w.parts i AbsentV) end ∙ off.is))
+          | inr nq ↦ ap bare (at_other w p j (released_part value x) t ne nq ∙ (sym (unreleased_at w value j good (omega arith)) ∙ sym (released_behind p value w.parts j behind)))
+        ]
       ]
     ]
 

@@ -155,17 +155,18 @@ votes_same w g = bool_same _ _ onto back
         let long = length_mapped (thread_address w.shape) 0 (thread_count w.shape) in
         let low : k < thread_count w.shape = omega arith in
         ap (votes_at w) (address_at w.shape k low) ∙ each_thread w (thread_address w.shape k) g ((orders_threads w.shape g.limits).there k low) e)
+
     back : list_all (votes_at w) (addresses w.shape) ≡ true → (notes_of (rest_of w).part (visited w.shape)).votes ≡ true
     back e = noted_from (rest_of w).part (visited w.shape) (λ p inside.
         let last = at_last w.shape g.limits in
         let below : p < part_count w.shape = omega arith in
         let on = on_place w p g below in
         shown_votes w p (get_or w.parts p AbsentV) on inside (λ v is. each_tile w p v g (subst (OnPart w p) is on) (λ a there.
-            let i = (orders_threads w.shape g.limits).each a there in
-            let long = length_mapped (thread_address w.shape) 0 (thread_count w.shape) in
-            let low = i.1 in
-            let at = all_at (votes_at w) (addresses w.shape) i.0 0 e (omega arith) in
-            sym (ap (votes_at w) (address_at w.shape i.0 low ∙ i.2)) ∙ at)))
+        let i = (orders_threads w.shape g.limits).each a there in
+        let long = length_mapped (thread_address w.shape) 0 (thread_count w.shape) in
+        let low = i.1 in
+        let at = all_at (votes_at w) (addresses w.shape) i.0 0 e (omega arith) in
+        sym (ap (votes_at w) (address_at w.shape i.0 low ∙ i.2)) ∙ at)))
 
 -- ---- the value that threads learn
 

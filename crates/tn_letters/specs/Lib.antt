@@ -2,6 +2,7 @@ pub mod Conserved
 pub mod Law
 pub mod Letters
 pub mod Machine
+pub mod NextStep
 pub mod Settled
 pub mod SlotLaw
 pub mod Standing

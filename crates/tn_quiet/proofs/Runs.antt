@@ -55,7 +55,7 @@ event_quiet e w new limits q h =
 
 -- ---- every walk
 
-walk_quiet : (es : List Event) (w end : WorldView) → WithinLimits w.shape → IsQuietWorld w → Walk w es end → IsQuietWorld end × (end.shape ≡ w.shape)
+pub walk_quiet : (es : List Event) (w end : WorldView) → WithinLimits w.shape → IsQuietWorld w → Walk w es end → IsQuietWorld end × (end.shape ≡ w.shape)
 walk_quiet [] w end limits q r = (subst IsQuietWorld r q, ap (λ (x : WorldView). x.shape) (sym r))
 walk_quiet (e ∷ es) w end limits q r =
     let mid = r.0 in
