@@ -58,34 +58,17 @@ PlainRest Announce = ⊥
 PlainRest (Release p) = ⊥
 PlainRest (Go p) = ⊥
 
+some_work : (r s : RestEvent) → Some r ≡ Some s → r ≡ s
+some_work r s e = cc e
+
 plain_rest : (n : ShapeNumbers) (e : Event) (r : RestEvent) → Plain e → as_rest n e ≡ Some r → PlainRest r
 plain_rest n (event.Turn t k) r plain is = let m = kept_by Work (part_of n t) r is in subst PlainRest (sym m.2) tt
 plain_rest n (event.Deliver t) r plain is = let m = kept_by Work (part_of n t) r is in subst PlainRest (sym m.2) tt
-plain_rest n (event.Depart p l) r plain is = subst (λ (o : Option RestEvent). in_some o) is tt
-  where
-    in_some : Option RestEvent → Type 0
-    in_some None = Unit {0}
-    in_some (Some r) = PlainRest r
-plain_rest n (event.Arrive l p) r plain is = subst (λ (o : Option RestEvent). in_some o) is tt
-  where
-    in_some : Option RestEvent → Type 0
-    in_some None = Unit {0}
-    in_some (Some r) = PlainRest r
-plain_rest n (event.Route p) r plain is = subst (λ (o : Option RestEvent). in_some o) is tt
-  where
-    in_some : Option RestEvent → Type 0
-    in_some None = Unit {0}
-    in_some (Some r) = PlainRest r
-plain_rest n event.HostPut r plain is = subst (λ (o : Option RestEvent). in_some o) is tt
-  where
-    in_some : Option RestEvent → Type 0
-    in_some None = Unit {0}
-    in_some (Some r) = PlainRest r
-plain_rest n event.HostTake r plain is = subst (λ (o : Option RestEvent). in_some o) is tt
-  where
-    in_some : Option RestEvent → Type 0
-    in_some None = Unit {0}
-    in_some (Some r) = PlainRest r
+plain_rest n (event.Depart p l) r plain is = subst PlainRest (some_work (Depart _ _) r is) tt
+plain_rest n (event.Arrive l p) r plain is = subst PlainRest (some_work (Arrive _ _) r is) tt
+plain_rest n (event.Route p) r plain is = subst PlainRest (some_work (Work _) r is) tt
+plain_rest n event.HostPut r plain is = subst PlainRest (some_work (Depart _ _) r is) tt
+plain_rest n event.HostTake r plain is = subst PlainRest (some_work (Arrive _ _) r is) tt
 plain_rest n (event.Report p) r plain is = absurd plain
 plain_rest n event.Begin r plain is = absurd plain
 plain_rest n (event.Confirm p) r plain is = absurd plain
@@ -114,22 +97,19 @@ rest_detector w g =
 
 -- ---- a release that is under way
 
+true_false : true ≡ false → ⊥
+true_false e = cc e
+
 -- parts that are released already work, and no other part does
 works_before : (n m i : ℕ) (r : RestEvent) (old new : RestView) → PlainRest r → IsReleasing i n m old → Happens n m r old new → (p : ℕ) × (r ≡ Work p) × (p < i)
 works_before n m i (Work p) old new plain releasing h = elim (cases_lt p i) [
   | inl before ↦ (p, refl, before)
   | inr behind ↦ (let still = releasing.still p behind h.0.inside in let busy = h.1.busy in absurd (true_false (sym still ∙ busy)))
 ]
-  where
-    true_false : true ≡ false → ⊥
-    true_false e = cc e
 works_before n m i (Depart p l) old new plain releasing h = elim (cases_lt p i) [
   | inl before ↦ absurd (true_false (sym (lt-ltb p i before) ∙ (sym (releasing.held p h.0.inside) ∙ h.1.free)))
   | inr behind ↦ absurd (true_false (sym (releasing.still p behind h.0.inside) ∙ h.1.busy))
 ]
-  where
-    true_false : true ≡ false → ⊥
-    true_false e = cc e
 works_before n m i (Arrive l p) old new plain releasing h = let none = releasing.empty l h.2.inside in let less = h.2.less in absurd (omega arith)
 works_before n m i (Report p) old new plain releasing h = absurd plain
 works_before n m i Begin old new plain releasing h = absurd plain
@@ -167,9 +147,6 @@ by_router : (e : Event) (w new : WorldView) (p a : ℕ) (b : Bool) → happened_
 by_router e w new p a false h steps same = cc h
 by_router e w new p a true h steps same =
     record { row = subst (λ q. happened_at e w (One q) ≡ Some new) same h; steps = steps ∙ ap (λ q. part_steps (reach_of w) e (slice_get w.parts q)) same }
-
-some_work : (r s : RestEvent) → Some r ≡ Some s → r ≡ s
-some_work r s e = cc e
 
 on_one : (e : Event) (w new : WorldView) (p : ℕ) → Plain e → happened e w ≡ Some new → as_rest w.shape e ≡ Some (Work p) → OnOne e w new p
 on_one (event.Turn t k) w new p plain h is = by_thread (event.Turn t k) w new p (part_of w.shape t) h refl is

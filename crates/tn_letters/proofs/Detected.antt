@@ -1,7 +1,7 @@
 -- What the events of the detector make of a machine: of a part, and of the detector.
 use Rattle.std.proofs.Common.{ℕ, ◌≡◌, ◌<◌, ◌+◌, length, get_or, set, refl, ◌∙◌, ap, subst, arith, Option, Some, option_map, slice_get}
 use Rattle.std.specs.Prelude.{nat_lt}
-use Rattle.std.proofs.lemmas.Option.{get_or_from_slice_get, slice_get-get_or, slice_get_within}
+use Rattle.std.proofs.lemmas.Option.{slice_get-get_or}
 use Rattle.tn_base.specs.declared.event.Event.{Event}
 use Rattle.tn_base.specs.declared.event.Event.TheVariants as event
 use Rattle.tn_base.specs.declared.ids.PartId.{PartId}
@@ -40,6 +40,7 @@ use Rattle.tn_tile.specs.TileView.{TileView, now_by, with_now}
 use Rattle.tn_tile.proofs.Deeds.{confirm_deed, go_deed, release_deed, report_deed}
 use Rattle.tn_letters.specs.Settled.{released_part}
 use Rattle.tn_letters.proofs.Bare.{with_parts}
+use Rattle.tn_letters.proofs.Walks.{on_read}
 use Rattle.tn_letters.proofs.Lift.{Good, OnPart, StandsAt, stands_on}
 
 -- ---- what a part becomes
@@ -136,12 +137,6 @@ detector_there (DetectorV v) i = (v, refl)
 detector_there AbsentV i = absurd i
 
 -- ---- an event on a part and the detector
-
-on_read : (w : WorldView) (p : ℕ) (part : PartView) → Good w → slice_get w.parts p ≡ Some part → OnPart w p part
-on_read w p part good here =
-    let h = slice_get_within w.parts p part here in
-    let n = good.count in
-    record { within = h; below = omega arith; is = get_or_from_slice_get w.parts p part AbsentV here }
 
 -- part p becomes what is made of it, and the detector does its deed with the facts that cross
 pub record Paired (w new : WorldView) (p : ℕ) (made : ℕ → PartView → PartView) (d : PartFacts → Deed) : Type 0 where

@@ -11,7 +11,7 @@ use Rattle.tn_base.specs.declared.part.Kind.{Kind}
 use Rattle.tn_base.specs.declared.part.Kind.TheVariants as kind
 use Rattle.tn_base.specs.declared.shape.ShapeNumbers.{ShapeNumbers}
 use Rattle.tn_base.specs.Address.{has_thread, in_tile, place_in_tile, tile_of, tile_place, tile_threads}
-use Rattle.tn_base.specs.Parts.{kind_of, part_count, tile_at, visited}
+use Rattle.tn_base.specs.Parts.{kind_of, part_count, tile_at as tile_address, visited}
 use Rattle.tn_base.proofs.TilePlaces.{fields, place_below, tile_found, tile_kind}
 use Rattle.tn_host.specs.HostView.{HostState}
 use Rattle.tn_host.specs.Script.{first_item, is_no_send}
@@ -45,6 +45,7 @@ use Rattle.tn_letters.specs.Tiles.{host_in, letter_in, part_for, reach_of, threa
 use Rattle.tn_letters.proofs.Lift.{Good, GoodTile, On, OnPart, StandsAt, part_on, stands_on}
 use Rattle.tn_letters.proofs.PartKinds.{RouterPart, TilePart, router_part_is, tile_part_is}
 use Rattle.tn_letters.proofs.Simulate.{shown}
+use Rattle.tn_letters.proofs.Walks.{first_is, router_at, tile_at}
 
 -- ---- lists of nothing
 
@@ -139,20 +140,6 @@ tile_visited n p tile e = let t : TilePart n p tile = tile_part_is n p tile e in
 router_visited : (n : ShapeNumbers) (p : ℕ) (v : RouterView) → kind_of n p ≡ kind.Router v.plan.board → p < visited n
 router_visited n p v e = let t : RouterPart n p v.plan.board = router_part_is n p v.plan.board e in let a = t.below in let b = t.part in omega arith
 
-at_router : (k : Kind) (v : RouterView) → StandsAt k (RouterV v) → k ≡ kind.Router v.plan.board
-at_router (kind.Router board) v s = ap kind.Router (sym s)
-at_router (kind.Tile tile) v s = absurd s
-at_router kind.Host v s = absurd s
-at_router (kind.Link from onto) v s = absurd s
-at_router kind.Detector v s = absurd s
-
-at_tile : (k : Kind) (v : TileView) → StandsAt k (TileV v) → (tile : TileId) × (k ≡ kind.Tile tile)
-at_tile (kind.Tile tile) v s = (tile, refl)
-at_tile (kind.Router board) v s = absurd s
-at_tile kind.Host v s = absurd s
-at_tile (kind.Link from onto) v s = absurd s
-at_tile kind.Detector v s = absurd s
-
 -- a link is neither visited nor the last part
 record LinkPlace (n : ShapeNumbers) (p : ℕ) : Type 0 where
   behind : visited n ≤ p
@@ -175,11 +162,11 @@ at_link w p kind.Detector x g e s = absurd s
 
 part_nothing : (w : WorldView) (reach : Reach) (p : ℕ) (x : PartView) → Good w → IsRest (visited w.shape) (link_count w.shape) (rest_of w) → OnPart w p x → part_standing w.shape reach p x ≡ []
 part_nothing w reach p (TileV v) g rest on =
-    let t = at_tile (kind_of w.shape p) v (stands_on w p (TileV v) g on) in
+    let t = tile_at (kind_of w.shape p) v (stands_on w p (TileV v) g on) in
     let inside = tile_visited w.shape p t.0 t.1 in
     tile_nothing w.shape reach p v (part_on w p (TileV v) g on) (sym (ap (λ (f : Facts). f.view.still) (part_facts w p (TileV v) on inside)) ∙ rest.still p inside)
 part_nothing w reach p (RouterV v) g rest on =
-    let inside = router_visited w.shape p v (at_router (kind_of w.shape p) v (stands_on w p (RouterV v) g on)) in
+    let inside = router_visited w.shape p v (router_at (kind_of w.shape p) v (stands_on w p (RouterV v) g on)) in
     router_nothing w.shape reach p v (sym (ap (λ (f : Facts). f.view.still) (part_facts w p (RouterV v) on inside)) ∙ rest.still p inside)
 part_nothing w reach p (LinkV x) g rest on =
     let site = at_link w p (kind_of w.shape p) x g refl (stands_on w p (LinkV x) g on) in
@@ -212,7 +199,7 @@ seat w a g there =
     let p = part_for w a in
     let found = tile_found n (tile_of a) g.limits (fields n a there).tile in
     let below = found.0 in
-    let k : kind_of n p ≡ kind.Tile (record { 0 = tile_at n (tile_place n (tile_of a)) }) = tile_kind n (tile_place n (tile_of a)) below in
+    let k : kind_of n p ≡ kind.Tile (record { 0 = tile_address n (tile_place n (tile_of a)) }) = tile_kind n (tile_place n (tile_of a)) below in
     let inside = tile_visited n p _ k in
     let last = at_last n g.limits in
     let all : p < part_count n = omega arith in
@@ -230,19 +217,11 @@ seat w a g there =
       thread = ap (λ x. thread_at (tile_in x).now (place_in_tile n a)) v.1;
     }
 
-host_first : (x : PartView) → StandsAt kind.Host x → (s : HostState) × (x ≡ HostV s)
-host_first (HostV s) h = (s, refl)
-host_first (TileV v) h = absurd h
-host_first (RouterV v) h = absurd h
-host_first (LinkV x) h = absurd h
-host_first (DetectorV v) h = absurd h
-host_first AbsentV h = absurd h
-
 -- the host of a machine
 pub host_there : (w : WorldView) → Good w → (s : HostState) × OnPart w 0 (HostV s)
 host_there w g =
     let on = on_place w 0 g (omega arith) in
-    let s = host_first (get_or w.parts 0 AbsentV) (stands_on w 0 (get_or w.parts 0 AbsentV) g on) in
+    let s = first_is (get_or w.parts 0 AbsentV) (stands_on w 0 (get_or w.parts 0 AbsentV) g on) in
     (s.0, subst (OnPart w 0) s.1 on)
 
 pub at_rest : (got : ℕ → List Letter) (dropped : List Letter) (w : WorldView) → Good w → IsRest (visited w.shape) (link_count w.shape) (rest_of w) → IsAtRest w.shape (shown got dropped w)

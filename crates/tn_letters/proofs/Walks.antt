@@ -230,7 +230,7 @@ by_route got dropped e w new p v (Some x) good on row is =
     subst (λ (y : WorldView). Reached got dropped w [] y) (ap (λ (o : Option WorldView). unwrap_or o new) is) (route_only got dropped e w p v x good on row)
 
 -- part p of the machine is what is read there
-on_read : (w : WorldView) (p : ℕ) (part : PartView) → Good w → slice_get w.parts p ≡ Some part → OnPart w p part
+pub on_read : (w : WorldView) (p : ℕ) (part : PartView) → Good w → slice_get w.parts p ≡ Some part → OnPart w p part
 on_read w p part good here =
     let h = slice_get_within w.parts p part here in
     let n = good.count in
@@ -278,14 +278,14 @@ only_link n p q (kind.Router board) part leads e low stands x is = subst (Stands
 only_link n p q kind.Detector part leads e low stands x is = subst (StandsAt kind.Detector) is stands
 
 -- the parts at the ends of a link
-tile_at : (k : Kind) (v : TileView) → StandsAt k (TileV v) → (tile : TileId) × (k ≡ kind.Tile tile) × (v.plan.tile ≡ tile.0)
+pub tile_at : (k : Kind) (v : TileView) → StandsAt k (TileV v) → (tile : TileId) × (k ≡ kind.Tile tile) × (v.plan.tile ≡ tile.0)
 tile_at (kind.Tile tile) v stands = (tile, refl, stands)
 tile_at kind.Host v stands = absurd stands
 tile_at (kind.Router board) v stands = absurd stands
 tile_at (kind.Link from onto) v stands = absurd stands
 tile_at kind.Detector v stands = absurd stands
 
-router_at : (k : Kind) (v : RouterView) → StandsAt k (RouterV v) → k ≡ kind.Router v.plan.board
+pub router_at : (k : Kind) (v : RouterView) → StandsAt k (RouterV v) → k ≡ kind.Router v.plan.board
 router_at (kind.Router board) v stands = ap kind.Router (sym stands)
 router_at kind.Host v stands = absurd stands
 router_at (kind.Tile tile) v stands = absurd stands
@@ -495,7 +495,7 @@ put_pair got dropped w new p q low (DetectorV v) good on off first from link is 
 put_pair got dropped w new p q low AbsentV good on off first from link is = absurd link
 
 -- the first part is the host
-first_is : (part : PartView) → StandsAt kind.Host part → (s : HostState) × (part ≡ HostV s)
+pub first_is : (part : PartView) → StandsAt kind.Host part → (s : HostState) × (part ≡ HostV s)
 first_is (HostV s) stands = (s, refl)
 first_is (TileV v) stands = absurd stands
 first_is (RouterV v) stands = absurd stands

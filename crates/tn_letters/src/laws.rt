@@ -7,6 +7,8 @@ ghost use Rattle.tn_letters.specs.SlotLaw.{EveryEventKeepsSlots, EveryPutIsOfIts
 
 /// Each run of a machine from its start is a run of the bag machine: what a thread is handed was sent to it, and a letter
 /// that is neither handed nor dropped is in a named place.
+/// An announcement of the machine's rest is a step of the run, and the step is enabled only if no letter is in flight. No other event
+/// of the detector is a step.
 pub fn law_runs()
     ensures { EveryRunIsBagRun }
 {}
