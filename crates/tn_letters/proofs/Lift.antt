@@ -32,7 +32,7 @@ use Rattle.tn_base.specs.declared.part.Kind.{Kind}
 use Rattle.tn_base.specs.declared.part.Kind.TheVariants as kind
 use Rattle.tn_link.specs.LinkView.{LinkView}
 use Rattle.tn_rows.specs.Events.{with_part}
-use Rattle.tn_rows.specs.PartView.{PartView, TileV, RouterV, LinkV, HostV, AbsentV}
+use Rattle.tn_rows.specs.PartView.{PartView, TileV, RouterV, LinkV, HostV, DetectorV, AbsentV}
 use Rattle.tn_rows.specs.WorldView.{WorldView}
 use Rattle.tn_letters.specs.Law.{IsSendable}
 use Rattle.tn_letters.specs.Standing.{standing_letters}
@@ -132,6 +132,7 @@ GoodPart n tables p (TileV v) = GoodTile n p v
 GoodPart n tables p (RouterV v) = GoodRouter n tables v
 GoodPart n tables p (LinkV x) = GoodLink n p x
 GoodPart n tables p (HostV s) = AllByRecursion (IsSendable n) s.script
+GoodPart n tables p (DetectorV v) = Unit {0}
 GoodPart n tables p AbsentV = Unit {0}
 
 -- a part stands at a place of its kind
@@ -140,27 +141,32 @@ StandsAt (kind.Tile tile) (TileV v) = v.plan.tile ≡ tile.0
 StandsAt (kind.Tile tile) (RouterV v) = ⊥
 StandsAt (kind.Tile tile) (LinkV x) = ⊥
 StandsAt (kind.Tile tile) (HostV s) = ⊥
+StandsAt (kind.Tile tile) (DetectorV v) = ⊥
 StandsAt (kind.Tile tile) AbsentV = ⊥
 StandsAt (kind.Router board) (TileV v) = ⊥
 StandsAt (kind.Router board) (RouterV v) = v.plan.board ≡ board
 StandsAt (kind.Router board) (LinkV x) = ⊥
 StandsAt (kind.Router board) (HostV s) = ⊥
+StandsAt (kind.Router board) (DetectorV v) = ⊥
 StandsAt (kind.Router board) AbsentV = ⊥
 StandsAt (kind.Link from onto) (TileV v) = ⊥
 StandsAt (kind.Link from onto) (RouterV v) = ⊥
 StandsAt (kind.Link from onto) (LinkV x) = Unit {0}
 StandsAt (kind.Link from onto) (HostV s) = ⊥
+StandsAt (kind.Link from onto) (DetectorV v) = ⊥
 StandsAt (kind.Link from onto) AbsentV = ⊥
 StandsAt kind.Host (TileV v) = ⊥
 StandsAt kind.Host (RouterV v) = ⊥
 StandsAt kind.Host (LinkV x) = ⊥
 StandsAt kind.Host (HostV s) = Unit {0}
+StandsAt kind.Host (DetectorV v) = ⊥
 StandsAt kind.Host AbsentV = ⊥
 StandsAt kind.Detector (TileV v) = ⊥
 StandsAt kind.Detector (RouterV v) = ⊥
 StandsAt kind.Detector (LinkV x) = ⊥
 StandsAt kind.Detector (HostV s) = ⊥
-StandsAt kind.Detector AbsentV = Unit {0}
+StandsAt kind.Detector (DetectorV v) = Unit {0}
+StandsAt kind.Detector AbsentV = ⊥
 
 -- part p of the machine is this one
 pub record OnPart (w : WorldView) (p : ℕ) (part : PartView) : Type 0 where
@@ -376,7 +382,7 @@ same_tile n p v u limits t s =
     let same : tile_place n u.plan.tile ≡ tile_place n v.plan.tile = let a = t.part in let b = s.part in omega arith in
     sym ((tile_found n u.plan.tile limits there).1) ∙ (ap (tile_at n) same ∙ (tile_found n v.plan.tile limits here).1)
 
-still_tile : (k : Kind) (v new : TileView) → new.plan.tile ≡ v.plan.tile → StandsAt k (TileV v) → StandsAt k (TileV new)
+pub still_tile : (k : Kind) (v new : TileView) → new.plan.tile ≡ v.plan.tile → StandsAt k (TileV v) → StandsAt k (TileV new)
 still_tile kind.Host v new e h = absurd h
 still_tile (kind.Tile tile) v new e h = e ∙ h
 still_tile (kind.Router board) v new e h = absurd h

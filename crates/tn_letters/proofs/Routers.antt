@@ -72,7 +72,7 @@ still_reached got dropped w there s host = becomes_reached got dropped w there [
 router_on : (w : WorldView) (p : ℕ) (v : RouterView) → Good w → OnRouter w p v → GoodRouter w.shape (tables_of w) v
 router_on w p v good on = part_on w p (RouterV v) good on
 
-still_router : (k : Kind) (v : RouterView) (new : RouterState) → StandsAt k (RouterV v) → StandsAt k (RouterV (with_now v new))
+pub still_router : (k : Kind) (v : RouterView) (new : RouterState) → StandsAt k (RouterV v) → StandsAt k (RouterV (with_now v new))
 still_router kind.Host v new h = absurd h
 still_router (kind.Tile tile) v new h = absurd h
 still_router (kind.Router board) v new h = h

@@ -29,19 +29,29 @@ use Rattle.tn_letters.specs.declared.steps.Seen.{Seen}
 use Rattle.tn_letters.specs.Law.{dropped_in, dropped_on}
 use Rattle.tn_letters.specs.Letters.{SameBag, Takes}
 use Rattle.tn_letters.specs.Machine.{BagRun, Happens, IsAllowed, MayStandFirst, MayStep, SamePacket, own_step, sight, with_own_step}
-use Rattle.tn_letters.specs.Standing.{bag_at, standing_letters}
+use Rattle.tn_letters.specs.Standing.{standing_letters}
 use Rattle.tn_letters.specs.State.{Agree, BagState, put}
 use Rattle.tn_letters.specs.Steps.{seen_at}
-use Rattle.tn_letters.specs.Tiles.{held_in, letter_in, part_for, program_of, reach_of, thread_in, thread_of, tile_for}
+use Rattle.tn_letters.specs.Tiles.{held_in, held_of, host_on, letter_in, part_for, program_of, reach_of, thread_in, thread_of, tile_for}
 use Rattle.tn_letters.proofs.Homes.{home_same}
 use Rattle.tn_letters.proofs.Lift.{Good, GoodTile, On, Stands, good_lift, good_now, host_beside, lift_put, lift_same, part_is, place_within, program_stays, tile_is, tile_on, tile_stands, with_tile}
 use Rattle.tn_letters.proofs.Runs.{same_refl}
 use Rattle.tn_letters.proofs.Slots.{taken_w}
 use Rattle.tn_letters.proofs.Weights.{same_bag, tile_w}
 
--- the state that a machine shows, beside what it does not show
+-- the state that the parts of a machine have now, beside what they do not show
 abbrev pub shown : (ℕ → List Letter) → List Letter → WorldView → BagState
-shown got dropped w = record (bag_at w) { got = got; dropped = dropped }
+shown got dropped w = record {
+  threads = thread_of w;
+  flight = standing_letters w;
+  got = got;
+  held = held_of w;
+  dropped = dropped;
+  host = (host_on w).got;
+  script = (host_on w).script;
+  host_sends = (host_on w).sends;
+  announcements = 0;
+}
 
 -- a thread of a tile of a machine, as all lemmas take it
 pub record Place (w : WorldView) (p : ℕ) (v : TileView) (a k : ℕ) : Type 0 where

@@ -9,8 +9,8 @@ use Rattle.tn_base.specs.declared.op.Op.TheVariants as op
 use Rattle.tn_base.specs.Mask.{without_bit}
 use Rattle.tn_node.specs.Deed.{Deed}
 use Rattle.tn_node.specs.Deed as deed
-use Rattle.tn_rows.specs.Events.{after, deed_of, happened, host_row, link_row, router_row, tile_did, tile_row}
-use Rattle.tn_rows.specs.PartView.{PartView, TileV, RouterV, LinkV, HostV, AbsentV}
+use Rattle.tn_rows.specs.Events.{after, deed_of, detector_row, happened, host_row, link_row, router_row, tile_did, tile_row}
+use Rattle.tn_rows.specs.PartView.{PartView, TileV, RouterV, LinkV, HostV, DetectorV, AbsentV}
 use Rattle.tn_rows.specs.Runs.{Walk}
 use Rattle.tn_rows.specs.WorldView.{WorldView}
 use Rattle.tn_rows.proofs.Meeting.{mapped}
@@ -137,6 +137,9 @@ after_kept e c j (RouterV v) new h used =
 after_kept e c j (LinkV v) new h used =
     let m = mapped LinkV (link_row e c v) new h in
     subst (λ (x : PartView). KeepsSlot j (tile_in (LinkV v)) (tile_in x)) m.2 (same_kept (tile_in (LinkV v)) j)
+after_kept e c j (DetectorV v) new h used =
+    let m = mapped DetectorV (detector_row e c v) new h in
+    subst (λ (x : PartView). KeepsSlot j (tile_in (DetectorV v)) (tile_in x)) m.2 (same_kept (tile_in (DetectorV v)) j)
 after_kept e c j (HostV s) new h used =
     let m = mapped HostV (host_row e c s) new h in
     subst (λ (x : PartView). KeepsSlot j (tile_in (HostV s)) (tile_in x)) m.2 (same_kept (tile_in (HostV s)) j)

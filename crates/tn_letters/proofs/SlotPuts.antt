@@ -13,8 +13,8 @@ use Rattle.tn_base.specs.declared.message.Packet.{Packet}
 use Rattle.tn_base.specs.Parts.{kind_of}
 use Rattle.tn_node.specs.Deed.{Deed}
 use Rattle.tn_node.specs.Deed as deed
-use Rattle.tn_rows.specs.Events.{after, carried, deed_of, happened, host_row, link_row, router_row, tile_did, tile_row}
-use Rattle.tn_rows.specs.PartView.{PartView, TileV, RouterV, LinkV, HostV, AbsentV}
+use Rattle.tn_rows.specs.Events.{after, carried, deed_of, detector_row, happened, host_row, link_row, router_row, tile_did, tile_row}
+use Rattle.tn_rows.specs.PartView.{PartView, TileV, RouterV, LinkV, HostV, DetectorV, AbsentV}
 use Rattle.tn_rows.specs.Places.{leads_to, two_if}
 use Rattle.tn_rows.specs.Runs.{Walk}
 use Rattle.tn_rows.specs.WorldView.{WorldView}
@@ -33,7 +33,8 @@ use Rattle.tn_letters.proofs.Lift.{Good, tile_on as good_tile}
 use Rattle.tn_letters.proofs.SlotChanges.{IsPut, IsUntouched, by_deed, deed_changed, packet_by}
 use Rattle.tn_letters.proofs.SlotLaw.{turn_kept}
 use Rattle.tn_letters.proofs.Starts.{good_start}
-use Rattle.tn_letters.proofs.Walks.{walk_good}
+use Rattle.tn_letters.proofs.Calm.{quiet_start}
+use Rattle.tn_letters.proofs.GoodParts.{walk_good}
 
 -- ---- a deed of a tile
 
@@ -111,12 +112,24 @@ from_event event.HostPut (crossing.View f) w i v P at crosses p = absurd p
 from_event event.HostTake crossing.None w i v P at crosses p = absurd p
 from_event event.HostTake (crossing.Packet x) w i v P at crosses p = absurd p
 from_event event.HostTake (crossing.View f) w i v P at crosses p = absurd p
-from_event (event.Report q) c w i v P at crosses p = absurd p
-from_event event.Begin c w i v P at crosses p = absurd p
-from_event (event.Confirm q) c w i v P at crosses p = absurd p
-from_event event.Announce c w i v P at crosses p = absurd p
-from_event (event.Release q) c w i v P at crosses p = absurd p
-from_event (event.Go q) c w i v P at crosses p = absurd p
+from_event (event.Report q) crossing.None w i v P at crosses p = absurd p
+from_event (event.Report q) (crossing.Packet x) w i v P at crosses p = absurd p
+from_event (event.Report q) (crossing.View f) w i v P at crosses p = absurd p
+from_event event.Begin crossing.None w i v P at crosses p = absurd p
+from_event event.Begin (crossing.Packet x) w i v P at crosses p = absurd p
+from_event event.Begin (crossing.View f) w i v P at crosses p = absurd p
+from_event (event.Confirm q) crossing.None w i v P at crosses p = absurd p
+from_event (event.Confirm q) (crossing.Packet x) w i v P at crosses p = absurd p
+from_event (event.Confirm q) (crossing.View f) w i v P at crosses p = absurd p
+from_event event.Announce crossing.None w i v P at crosses p = absurd p
+from_event event.Announce (crossing.Packet x) w i v P at crosses p = absurd p
+from_event event.Announce (crossing.View f) w i v P at crosses p = absurd p
+from_event (event.Release q) crossing.None w i v P at crosses p = absurd p
+from_event (event.Release q) (crossing.Packet x) w i v P at crosses p = absurd p
+from_event (event.Release q) (crossing.View f) w i v P at crosses p = absurd p
+from_event (event.Go q) crossing.None w i v P at crosses p = absurd p
+from_event (event.Go q) (crossing.Packet x) w i v P at crosses p = absurd p
+from_event (event.Go q) (crossing.View f) w i v P at crosses p = absurd p
 
 -- ---- an event on a machine
 
@@ -145,6 +158,9 @@ after_puts e c w i j k (RouterV v) new read crosses h =
 after_puts e c w i j k (LinkV v) new read crosses h =
     let m = mapped LinkV (link_row e c v) new h in
     subst (λ (x : PartView). PutsOn e w j k i (LinkV v) x) m.2 (λ long rise. absurd (stays_low (tile_in (LinkV v)) j k rise))
+after_puts e c w i j k (DetectorV v) new read crosses h =
+    let m = mapped DetectorV (detector_row e c v) new h in
+    subst (λ (x : PartView). PutsOn e w j k i (DetectorV v) x) m.2 (λ long rise. absurd (stays_low (tile_in (DetectorV v)) j k rise))
 after_puts e c w i j k (HostV s) new read crosses h =
     let m = mapped HostV (host_row e c s) new h in
     subst (λ (x : PartView). PutsOn e w j k i (HostV s) x) m.2 (λ long rise. absurd (stays_low (tile_in (HostV s)) j k rise))
@@ -169,9 +185,10 @@ has_senders w p (TileV v) good e = senders_at w p v good e (cases_lt p (length w
 has_senders w p (RouterV v) good e = refl
 has_senders w p (LinkV v) good e = refl
 has_senders w p (HostV s) good e = refl
+has_senders w p (DetectorV v) good e = refl
 has_senders w p AbsentV good e = refl
 
 pub put_is_of_packet : (start old new : WorldView) (history : List Event) (e : Event) (p s k : ℕ) → IsStart start → Walk start history old → happened e old ≡ Some new →
     bit_at (slot_at (tile_on old p).now.pool s).owed k < bit_at (slot_at (tile_on new p).now.pool s).owed k → MatchOption (brought e old p) ⊥ (λ q. HasMessage s q (tile_on old p) (tile_on new p))
 put_is_of_packet start old new history e p s k begins walk is rise =
-    event_puts e old new p s k is (has_senders old p (part_at old.parts p) (walk_good history start old (good_start start begins) walk) refl) rise
+    event_puts e old new p s k is (has_senders old p (part_at old.parts p) (walk_good history start old (good_start start begins) (quiet_start start begins (good_start start begins)) walk) refl) rise

@@ -17,8 +17,8 @@ use Rattle.tn_base.proofs.Masks.{with_other, without_other}
 use Rattle.tn_base.proofs.TilePlaces.{place_named}
 use Rattle.tn_node.specs.Deed.{Deed}
 use Rattle.tn_node.specs.Deed as deed
-use Rattle.tn_rows.specs.Events.{after, deed_of, happened, host_row, link_row, router_row, tile_did, tile_row}
-use Rattle.tn_rows.specs.PartView.{PartView, TileV, RouterV, LinkV, HostV, AbsentV}
+use Rattle.tn_rows.specs.Events.{after, deed_of, detector_row, happened, host_row, link_row, router_row, tile_did, tile_row}
+use Rattle.tn_rows.specs.PartView.{PartView, TileV, RouterV, LinkV, HostV, DetectorV, AbsentV}
 use Rattle.tn_rows.specs.WorldView.{WorldView}
 use Rattle.tn_rows.proofs.Meeting.{mapped}
 use Rattle.tn_slots.specs.declared.slot.Slot.{Slot}
@@ -175,12 +175,24 @@ other_deed event.HostPut (crossing.View f) v k other = tt
 other_deed event.HostTake crossing.None v k other = tt
 other_deed event.HostTake (crossing.Packet x) v k other = tt
 other_deed event.HostTake (crossing.View f) v k other = tt
-other_deed (event.Report p) c v k other = tt
-other_deed event.Begin c v k other = tt
-other_deed (event.Confirm p) c v k other = tt
-other_deed event.Announce c v k other = tt
-other_deed (event.Release p) c v k other = tt
-other_deed (event.Go p) c v k other = tt
+other_deed (event.Report p) crossing.None v k other = tt
+other_deed (event.Report p) (crossing.Packet x) v k other = tt
+other_deed (event.Report p) (crossing.View f) v k other = tt
+other_deed event.Begin crossing.None v k other = tt
+other_deed event.Begin (crossing.Packet x) v k other = tt
+other_deed event.Begin (crossing.View f) v k other = tt
+other_deed (event.Confirm p) crossing.None v k other = tt
+other_deed (event.Confirm p) (crossing.Packet x) v k other = tt
+other_deed (event.Confirm p) (crossing.View f) v k other = tt
+other_deed event.Announce crossing.None v k other = tt
+other_deed event.Announce (crossing.Packet x) v k other = tt
+other_deed event.Announce (crossing.View f) v k other = tt
+other_deed (event.Release p) crossing.None v k other = tt
+other_deed (event.Release p) (crossing.Packet x) v k other = tt
+other_deed (event.Release p) (crossing.View f) v k other = tt
+other_deed (event.Go p) crossing.None v k other = tt
+other_deed (event.Go p) (crossing.Packet x) v k other = tt
+other_deed (event.Go p) (crossing.View f) v k other = tt
 
 -- what the law says of a part
 abbrev StaysOn : Event → ℕ → ℕ → PartView → PartView → Type 0
@@ -201,6 +213,9 @@ after_stays e c j k (RouterV v) new low h used other =
 after_stays e c j k (LinkV v) new low h used other =
     let m = mapped LinkV (link_row e c v) new h in
     subst (λ (x : PartView). StaysWith j k (tile_in (LinkV v)) (tile_in x)) m.2 (view_same j k (tile_in (LinkV v)))
+after_stays e c j k (DetectorV v) new low h used other =
+    let m = mapped DetectorV (detector_row e c v) new h in
+    subst (λ (x : PartView). StaysWith j k (tile_in (DetectorV v)) (tile_in x)) m.2 (view_same j k (tile_in (DetectorV v)))
 after_stays e c j k (HostV s) new low h used other =
     let m = mapped HostV (host_row e c s) new h in
     subst (λ (x : PartView). StaysWith j k (tile_in (HostV s)) (tile_in x)) m.2 (view_same j k (tile_in (HostV s)))

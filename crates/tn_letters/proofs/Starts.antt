@@ -2,7 +2,6 @@
 use Rattle.std.proofs.Common.{ℕ, ◌≡◌, ◌<◌, ◌≤◌, List, [], ◌∷◌, length, get_or, suc, refl, sym, ap, subst, ◌∙◌, ◌==◌, arith, IsTrue, sum_by, Bool, true, false, cond, zero, map, Option, None, MatchOption}
 use Rattle.std.proofs.lemmas.List.Sums.{sum_by-cons}
 use Rattle.tn_base.specs.declared.ids.TileId.{TileId}
-use Rattle.tn_base.specs.declared.event.Event.{Event}
 use Rattle.tn_base.specs.declared.part.Kind.{Kind}
 use Rattle.tn_base.specs.declared.part.Kind.TheVariants as kind
 use Rattle.tn_base.specs.declared.shape.ShapeNumbers.{ShapeNumbers}
@@ -37,15 +36,11 @@ use Rattle.tn_tile.specs.TileView.{TileView}
 use Rattle.tn_tile.proofs.Fresh.{fresh_shaped}
 use Rattle.tn_tile.proofs.Packed.{few_places}
 use Rattle.tn_rows.specs.Events.{FitsKind}
-use Rattle.tn_rows.specs.PartView.{PartView, TileV, RouterV, LinkV, HostV, AbsentV}
-use Rattle.tn_rows.specs.Runs.{Run}
+use Rattle.tn_rows.specs.PartView.{PartView, TileV, RouterV, LinkV, HostV, DetectorV, AbsentV}
 use Rattle.tn_rows.specs.WorldView.{WorldView}
-use Rattle.tn_letters.specs.Law.{IsBagRun, IsSendable, IsStart, StartsSo, dropped_on}
+use Rattle.tn_letters.specs.Law.{IsSendable, IsStart, StartsSo, dropped_on}
 use Rattle.tn_letters.proofs.Lift.{Good, GoodPart, GoodRouter, GoodTile, HomeTile, Homed, HostWay, IsForHost, On, OnPart, StandsAt}
 use Rattle.tn_letters.proofs.PartKinds.{RouterPart, TilePart, router_part_is, tile_part_is}
-use Rattle.tn_letters.specs.State.{Program}
-use Rattle.tn_letters.proofs.Simulate.{shown}
-use Rattle.tn_letters.proofs.Walks.{run_reached}
 
 -- a tile that fits its part is the part's
 fits_tile : (n : ShapeNumbers) (p : ℕ) (v : TileView) (k : Kind) → kind_of n p ≡ k → FitsKind n k (TileV v) → (tile : TileId) × (kind_of n p ≡ kind.Tile tile) × (v.plan.shape ≡ n) × (v.plan.tile ≡ tile.0)
@@ -172,6 +167,7 @@ good_part w p (LinkV x) s limits on =
 good_part w p (HostV s) start limits on =
     let fresh : StartsSo w.shape (HostV s) = subst (StartsSo w.shape) on.is (start.parts p on.within) in
     subst (λ (x : HostState). AllByRecursion (IsSendable w.shape) x.script) (sym fresh.2) fresh.1
+good_part w p (DetectorV v) s limits on = tt
 good_part w p AbsentV s limits on = tt
 
 fits_at : (n : ShapeNumbers) (k : Kind) (part : PartView) → FitsKind n k part → StandsAt k part
@@ -179,27 +175,32 @@ fits_at n (kind.Tile tile) (TileV v) f = f.1
 fits_at n (kind.Tile tile) (RouterV v) f = f
 fits_at n (kind.Tile tile) (LinkV x) f = f
 fits_at n (kind.Tile tile) (HostV s) f = f
+fits_at n (kind.Tile tile) (DetectorV v) f = f
 fits_at n (kind.Tile tile) AbsentV f = f
 fits_at n (kind.Router board) (TileV v) f = f
 fits_at n (kind.Router board) (RouterV v) f = f.1
 fits_at n (kind.Router board) (LinkV x) f = f
 fits_at n (kind.Router board) (HostV s) f = f
+fits_at n (kind.Router board) (DetectorV v) f = f
 fits_at n (kind.Router board) AbsentV f = f
 fits_at n (kind.Link from onto) (TileV v) f = f
 fits_at n (kind.Link from onto) (RouterV v) f = f
 fits_at n (kind.Link from onto) (LinkV x) f = tt
 fits_at n (kind.Link from onto) (HostV s) f = f
+fits_at n (kind.Link from onto) (DetectorV v) f = f
 fits_at n (kind.Link from onto) AbsentV f = f
 fits_at n kind.Host (TileV v) f = f
 fits_at n kind.Host (RouterV v) f = f
 fits_at n kind.Host (LinkV x) f = f
 fits_at n kind.Host (HostV s) f = tt
+fits_at n kind.Host (DetectorV v) f = f
 fits_at n kind.Host AbsentV f = f
 fits_at n kind.Detector (TileV v) f = f
 fits_at n kind.Detector (RouterV v) f = f
 fits_at n kind.Detector (LinkV x) f = f
 fits_at n kind.Detector (HostV s) f = f
-fits_at n kind.Detector AbsentV f = tt
+fits_at n kind.Detector (DetectorV v) f = tt
+fits_at n kind.Detector AbsentV f = f
 
 pub good_start : (w : WorldView) → IsStart w → Good w
 good_start w s =
@@ -219,31 +220,13 @@ none_dropped n (TileV v) s = ap (λ (x : TileView). x.now.dropped) s.3
 none_dropped n (RouterV v) s = refl
 none_dropped n (LinkV v) s = refl
 none_dropped n (HostV h) s = refl
+none_dropped n (DetectorV v) s = refl
 none_dropped n AbsentV s = refl
 
-sum_nothing : (n : ShapeNumbers) (parts : List PartView) → ((p : ℕ) → p < length parts → StartsSo n (get_or parts p AbsentV)) → sum_by dropped_on parts ≡ 0
+pub sum_nothing : (n : ShapeNumbers) (parts : List PartView) → ((p : ℕ) → p < length parts → StartsSo n (get_or parts p AbsentV)) → sum_by dropped_on parts ≡ 0
 sum_nothing n [] h = refl
 sum_nothing n (x ∷ xs) h =
     let c = sum_by-cons dropped_on x xs in
     let a = none_dropped n x (h 0 (omega arith)) in
     let b = sum_nothing n xs (λ p below. h (suc p) (omega arith)) in
     omega arith
-
-pub bag_run : (start : WorldView) (history : List Event) (end : WorldView) → IsStart start → Run start history end → IsBagRun start history end
-bag_run start history end s run =
-    let r = run_reached (λ _. []) [] history start end (good_start start s) run in
-    let same : end.shape ≡ start.shape = ap (λ (m : Program). m.shape) r.program in
-    let none = sum_nothing start.shape start.parts s.parts in
-    record {
-      state = shown r.now r.gone end;
-      run = r.run;
-      shows = record {
-        threads = λ a h. refl;
-        held = λ a slot h. refl;
-        flight = record { each = λ test. refl };
-        host = refl;
-        script = refl;
-        host_sends = refl;
-        dropped = let c = r.count in omega arith;
-      };
-    }

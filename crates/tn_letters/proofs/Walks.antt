@@ -6,10 +6,11 @@ use Rattle.tn_tile.specs.Step.{can_step, pending_at, stepped}
 use Rattle.tn_tile.specs.declared.state.TileState.{TileState}
 use Rattle.tn_tile.specs.TileView.{TileView, now_by, with_now}
 use Rattle.tn_base.specs.declared.port.Port.TheVariants as port
+use Rattle.tn_detect.specs.DetectorView.{DetectorView}
 use Rattle.tn_host.specs.HostView.{HostState}
 use Rattle.tn_link.specs.LinkRows.{front_of}
 use Rattle.tn_link.specs.LinkView.{LinkView}
-use Rattle.tn_rows.specs.PartView.{PartView, TileV, RouterV, LinkV, HostV, AbsentV}
+use Rattle.tn_rows.specs.PartView.{PartView, TileV, RouterV, LinkV, HostV, DetectorV, AbsentV}
 use Rattle.tn_rows.specs.WorldView.{WorldView}
 use Rattle.tn_letters.specs.declared.steps.BagStep.{BagStep}
 use Rattle.tn_letters.specs.Machine.{BagRun}
@@ -44,12 +45,12 @@ use Rattle.tn_base.specs.declared.event.Event.TheVariants as event
 use Rattle.tn_tile.specs.Rows.{delivered_from, is_here}
 use Rattle.tn_tile.specs.Step.{steps_of}
 use Rattle.tn_tile.proofs.Steps.{taken}
-use Rattle.tn_rows.specs.Events.{Met, after, carried, crossing_of, deed_of, happened, happened_at, host_row, link_row, meets, meets_at, met_with, router_did, tile_did, with_both, with_part}
+use Rattle.tn_rows.specs.Events.{Met, after, carried, crossing_of, deed_of, detector_row, happened, happened_at, host_row, link_row, meets, meets_at, met_with, router_did, tile_did, with_both, with_part}
 use Rattle.tn_rows.specs.Places.{Places, Nowhere, One, Two, leads_from, leads_to, link_way, places, two_if, way_between, way_of_kind}
 use Rattle.tn_stamp.specs.declared.entry.Crossing.{Crossing}
 use Rattle.tn_stamp.specs.declared.entry.Crossing.TheVariants as crossing
 use Rattle.tn_rows.specs.Runs.{Run, Walk}
-use Rattle.tn_letters.specs.Steps.{bag_of, delivery_steps, event_steps, meeting_steps, part_steps, put_steps, steps_at, take_steps, taking_steps, tile_steps, turn_steps}
+use Rattle.tn_letters.specs.Steps.{delivery_steps, event_steps, meeting_steps, part_steps, put_steps, steps_at, take_steps, taking_steps, tile_steps, turn_steps}
 use Rattle.tn_letters.proofs.Delivery.{delivery_reached}
 use Rattle.tn_letters.proofs.Simulate.{Place, Reached, shown}
 use Rattle.tn_letters.proofs.Threads.{step_reached}
@@ -165,6 +166,37 @@ no_host_row event.Announce s = refl
 no_host_row (event.Release p) s = refl
 no_host_row (event.Go p) s = refl
 
+-- the events in which the detector has no part
+abbrev pub Plain : Event → Type 0
+Plain (event.Turn t n) = Unit {0}
+Plain (event.Deliver t) = Unit {0}
+Plain (event.Depart p l) = Unit {0}
+Plain (event.Arrive l p) = Unit {0}
+Plain (event.Route p) = Unit {0}
+Plain event.HostPut = Unit {0}
+Plain event.HostTake = Unit {0}
+Plain (event.Report p) = ⊥
+Plain event.Begin = ⊥
+Plain (event.Confirm p) = ⊥
+Plain event.Announce = ⊥
+Plain (event.Release p) = ⊥
+Plain (event.Go p) = ⊥
+
+no_detector_row : (e : Event) (v : DetectorView) → Plain e → detector_row e crossing.None v ≡ None
+no_detector_row (event.Turn t n) v plain = refl
+no_detector_row (event.Deliver t) v plain = refl
+no_detector_row (event.Depart p l) v plain = refl
+no_detector_row (event.Arrive l p) v plain = refl
+no_detector_row (event.Route p) v plain = refl
+no_detector_row event.HostPut v plain = refl
+no_detector_row event.HostTake v plain = refl
+no_detector_row (event.Report p) v plain = absurd plain
+no_detector_row event.Begin v plain = absurd plain
+no_detector_row (event.Confirm p) v plain = absurd plain
+no_detector_row event.Announce v plain = absurd plain
+no_detector_row (event.Release p) v plain = absurd plain
+no_detector_row (event.Go p) v plain = absurd plain
+
 -- ---- an event on one part of the machine
 
 by_row : (got : ℕ → List Letter) (dropped : List Letter) (e : Event) (w new : WorldView) (p : ℕ) (v : TileView) (r : Option TileState) → Good w → On w p v → tile_did v.plan v.now (deed_of v.plan.shape e crossing.None) ≡ r → option_map (with_part w p) (option_map TileV (now_by v r)) ≡ Some new → Reached got dropped w (tile_steps (reach_of w) e v) new
@@ -198,19 +230,20 @@ by_route got dropped e w new p v (Some x) good on row is =
     subst (λ (y : WorldView). Reached got dropped w [] y) (ap (λ (o : Option WorldView). unwrap_or o new) is) (route_only got dropped e w p v x good on row)
 
 -- part p of the machine is what is read there
-on_read : (w : WorldView) (p : ℕ) (part : PartView) → Good w → slice_get w.parts p ≡ Some part → OnPart w p part
+pub on_read : (w : WorldView) (p : ℕ) (part : PartView) → Good w → slice_get w.parts p ≡ Some part → OnPart w p part
 on_read w p part good here =
     let h = slice_get_within w.parts p part here in
     let n = good.count in
     record { within = h; below = omega arith; is = get_or_from_slice_get w.parts p part AbsentV here }
 
-by_part : (got : ℕ → List Letter) (dropped : List Letter) (e : Event) (w new : WorldView) (p : ℕ) (q : Option PartView) → Good w → slice_get w.parts p ≡ q → option_map (with_part w p) (option_and_then (after e crossing.None) q) ≡ Some new → Reached got dropped w (part_steps (reach_of w) e q) new
-by_part got dropped e w new p None good here is = cc is
-by_part got dropped e w new p (Some AbsentV) good here is = cc is
-by_part got dropped e w new p (Some (LinkV x)) good here is = absurd (not_some LinkV w new p (link_row e crossing.None x) (no_row e x) is)
-by_part got dropped e w new p (Some (HostV s)) good here is = absurd (not_some HostV w new p (host_row e crossing.None s) (no_host_row e s) is)
-by_part got dropped e w new p (Some (RouterV v)) good here is = by_route got dropped e w new p v (router_did v.plan v.now (deed_of v.plan.shape e crossing.None)) good (on_read w p (RouterV v) good here) refl is
-by_part got dropped e w new p (Some (TileV v)) good here is = by_row got dropped e w new p v (tile_did v.plan v.now (deed_of v.plan.shape e crossing.None)) good (on_read w p (TileV v) good here) refl is
+pub by_part : (got : ℕ → List Letter) (dropped : List Letter) (e : Event) (w new : WorldView) (p : ℕ) (q : Option PartView) → Plain e → Good w → slice_get w.parts p ≡ q → option_map (with_part w p) (option_and_then (after e crossing.None) q) ≡ Some new → Reached got dropped w (part_steps (reach_of w) e q) new
+by_part got dropped e w new p None plain good here is = cc is
+by_part got dropped e w new p (Some AbsentV) plain good here is = cc is
+by_part got dropped e w new p (Some (DetectorV v)) plain good here is = absurd (not_some DetectorV w new p (detector_row e crossing.None v) (no_detector_row e v plain) is)
+by_part got dropped e w new p (Some (LinkV x)) plain good here is = absurd (not_some LinkV w new p (link_row e crossing.None x) (no_row e x) is)
+by_part got dropped e w new p (Some (HostV s)) plain good here is = absurd (not_some HostV w new p (host_row e crossing.None s) (no_host_row e s) is)
+by_part got dropped e w new p (Some (RouterV v)) plain good here is = by_route got dropped e w new p v (router_did v.plan v.now (deed_of v.plan.shape e crossing.None)) good (on_read w p (RouterV v) good here) refl is
+by_part got dropped e w new p (Some (TileV v)) plain good here is = by_row got dropped e w new p v (tile_did v.plan v.now (deed_of v.plan.shape e crossing.None)) good (on_read w p (TileV v) good here) refl is
 
 -- ---- an event on two parts
 
@@ -245,14 +278,14 @@ only_link n p q (kind.Router board) part leads e low stands x is = subst (Stands
 only_link n p q kind.Detector part leads e low stands x is = subst (StandsAt kind.Detector) is stands
 
 -- the parts at the ends of a link
-tile_at : (k : Kind) (v : TileView) → StandsAt k (TileV v) → (tile : TileId) × (k ≡ kind.Tile tile) × (v.plan.tile ≡ tile.0)
+pub tile_at : (k : Kind) (v : TileView) → StandsAt k (TileV v) → (tile : TileId) × (k ≡ kind.Tile tile) × (v.plan.tile ≡ tile.0)
 tile_at (kind.Tile tile) v stands = (tile, refl, stands)
 tile_at kind.Host v stands = absurd stands
 tile_at (kind.Router board) v stands = absurd stands
 tile_at (kind.Link from onto) v stands = absurd stands
 tile_at kind.Detector v stands = absurd stands
 
-router_at : (k : Kind) (v : RouterView) → StandsAt k (RouterV v) → k ≡ kind.Router v.plan.board
+pub router_at : (k : Kind) (v : RouterView) → StandsAt k (RouterV v) → k ≡ kind.Router v.plan.board
 router_at (kind.Router board) v stands = ap kind.Router (sym stands)
 router_at kind.Host v stands = absurd stands
 router_at (kind.Tile tile) v stands = absurd stands
@@ -361,6 +394,7 @@ IsLink (TileV v) = ⊥
 IsLink (RouterV v) = ⊥
 IsLink (LinkV x) = Unit {0}
 IsLink (HostV s) = ⊥
+IsLink (DetectorV v) = ⊥
 IsLink AbsentV = ⊥
 
 link_there : (w : WorldView) (q : ℕ) (from onto : PartId) (part : PartView) → Good w → OnPart w q part → kind_of w.shape q ≡ kind.Link from onto → IsLink part
@@ -368,6 +402,7 @@ link_there w q from onto (LinkV x) good on is = tt
 link_there w q from onto (TileV v) good on is = subst (λ k. StandsAt k (TileV v)) is (stands_on w q (TileV v) good on)
 link_there w q from onto (RouterV v) good on is = subst (λ k. StandsAt k (RouterV v)) is (stands_on w q (RouterV v) good on)
 link_there w q from onto (HostV s) good on is = subst (λ k. StandsAt k (HostV s)) is (stands_on w q (HostV s) good on)
+link_there w q from onto (DetectorV v) good on is = subst (λ k. StandsAt k (DetectorV v)) is (stands_on w q (DetectorV v) good on)
 link_there w q from onto AbsentV good on is = subst (λ k. StandsAt k AbsentV) is (stands_on w q AbsentV good on)
 
 -- the first one is none
@@ -391,10 +426,12 @@ depart_pair got dropped w new here there p q (LinkV y) (LinkV x) good on off at 
     let from = d.at in
     absurd (no_link w p y good on (omega arith))
 depart_pair got dropped w new here there p q (HostV s) (LinkV x) good on off at d link is = cc is
+depart_pair got dropped w new here there p q (DetectorV v) (LinkV x) good on off at d link is = cc is
 depart_pair got dropped w new here there p q AbsentV (LinkV x) good on off at d link is = cc is
 depart_pair got dropped w new here there p q low (TileV u) good on off at d link is = absurd link
 depart_pair got dropped w new here there p q low (RouterV u) good on off at d link is = absurd link
 depart_pair got dropped w new here there p q low (HostV s) good on off at d link is = absurd link
+depart_pair got dropped w new here there p q low (DetectorV v) good on off at d link is = absurd link
 depart_pair got dropped w new here there p q low AbsentV good on off at d link is = absurd link
 
 arrive_pair : (got : ℕ → List Letter) (dropped : List Letter) (w new : WorldView) (there here : PartId) (p q : ℕ) (low high : PartView) → Good w → OnPart w p low → OnPart w q high → ArrivesBy w.shape p q → IsLink high →
@@ -419,6 +456,13 @@ arrive_pair got dropped w new there here p q (HostV s) (LinkV x) good on off d l
     none_meets w new p q there here s high (Some crossing.None) is = cc is
     none_meets w new p q there here s high (Some (crossing.Packet k)) is = cc is
     none_meets w new p q there here s high (Some (crossing.View f)) is = cc is
+arrive_pair got dropped w new there here p q (DetectorV v) (LinkV x) good on off d link is = absurd (none_meets w new p q there here v (LinkV x) (option_map crossing.Packet (front_of x)) is)
+  where
+    none_meets : (w new : WorldView) (p q : ℕ) (there here : PartId) (v : DetectorView) (high : PartView) (c : Option Crossing) → option_map (with_both w p q) (met_with (event.Arrive there here) (DetectorV v) high c) ≡ Some new → ⊥
+    none_meets w new p q there here v high None is = cc is
+    none_meets w new p q there here v high (Some crossing.None) is = cc is
+    none_meets w new p q there here v high (Some (crossing.Packet k)) is = cc is
+    none_meets w new p q there here v high (Some (crossing.View f)) is = cc is
 arrive_pair got dropped w new there here p q AbsentV (LinkV x) good on off d link is = absurd (none_meets w new p q (event.Arrive there here) (LinkV x) (crossing_of (event.Arrive there here) AbsentV (LinkV x)) is)
   where
     none_meets : (w new : WorldView) (p q : ℕ) (e : Event) (high : PartView) (c : Option Crossing) → option_map (with_both w p q) (met_with e AbsentV high c) ≡ Some new → ⊥
@@ -427,6 +471,7 @@ arrive_pair got dropped w new there here p q AbsentV (LinkV x) good on off d lin
 arrive_pair got dropped w new there here p q low (TileV u) good on off d link is = absurd link
 arrive_pair got dropped w new there here p q low (RouterV u) good on off d link is = absurd link
 arrive_pair got dropped w new there here p q low (HostV s) good on off d link is = absurd link
+arrive_pair got dropped w new there here p q low (DetectorV v) good on off d link is = absurd link
 arrive_pair got dropped w new there here p q low AbsentV good on off d link is = absurd link
 
 -- ---- an event on the host and a link of its
@@ -441,18 +486,21 @@ put_pair got dropped w new p q (HostV s) (LinkV x) good on off first from link i
 put_pair got dropped w new p q (TileV v) (LinkV x) good on off first from link is = cc is
 put_pair got dropped w new p q (RouterV v) (LinkV x) good on off first from link is = cc is
 put_pair got dropped w new p q (LinkV y) (LinkV x) good on off first from link is = cc is
+put_pair got dropped w new p q (DetectorV v) (LinkV x) good on off first from link is = cc is
 put_pair got dropped w new p q AbsentV (LinkV x) good on off first from link is = cc is
 put_pair got dropped w new p q low (TileV v) good on off first from link is = absurd link
 put_pair got dropped w new p q low (RouterV v) good on off first from link is = absurd link
 put_pair got dropped w new p q low (HostV s) good on off first from link is = absurd link
+put_pair got dropped w new p q low (DetectorV v) good on off first from link is = absurd link
 put_pair got dropped w new p q low AbsentV good on off first from link is = absurd link
 
 -- the first part is the host
-first_is : (part : PartView) → StandsAt kind.Host part → (s : HostState) × (part ≡ HostV s)
+pub first_is : (part : PartView) → StandsAt kind.Host part → (s : HostState) × (part ≡ HostV s)
 first_is (HostV s) stands = (s, refl)
 first_is (TileV v) stands = absurd stands
 first_is (RouterV v) stands = absurd stands
 first_is (LinkV x) stands = absurd stands
+first_is (DetectorV v) stands = absurd stands
 first_is AbsentV stands = absurd stands
 
 take_pair : (got : ℕ → List Letter) (dropped : List Letter) (w new : WorldView) (p q : ℕ) (low high : PartView) → Good w → OnPart w p low → OnPart w q high → p ≡ 0 → q ≡ part_count w.shape - 3 → IsLink high →
@@ -467,34 +515,35 @@ take_pair got dropped w new p q low (LinkV x) good on off first onto link is =
 take_pair got dropped w new p q low (TileV v) good on off first onto link is = absurd link
 take_pair got dropped w new p q low (RouterV v) good on off first onto link is = absurd link
 take_pair got dropped w new p q low (HostV s) good on off first onto link is = absurd link
+take_pair got dropped w new p q low (DetectorV v) good on off first onto link is = absurd link
 take_pair got dropped w new p q low AbsentV good on off first onto link is = absurd link
 
 -- the parts are there
-pair_at : (got : ℕ → List Letter) (dropped : List Letter) (e : Event) (w new : WorldView) (p q : ℕ) (low high : PartView) → Good w → Joined w e p q → OnPart w p low → OnPart w q high →
+pair_at : (got : ℕ → List Letter) (dropped : List Letter) (e : Event) (w new : WorldView) (p q : ℕ) (low high : PartView) → Plain e → Good w → Joined w e p q → OnPart w p low → OnPart w q high →
     option_map (with_both w p q) (meets e low high) ≡ Some new → Reached got dropped w (meeting_steps (reach_of w) e (Some low) (Some high)) new
-pair_at got dropped (event.Depart here there) w new p q low high good joined a b is =
+pair_at got dropped (event.Depart here there) w new p q low high plain good joined a b is =
     depart_pair got dropped w new here there p q low high good a b joined.0 joined.1 (link_there w q joined.1.from joined.1.onto high good b joined.1.is) is
-pair_at got dropped (event.Arrive there here) w new p q low high good joined a b is =
+pair_at got dropped (event.Arrive there here) w new p q low high plain good joined a b is =
     arrive_pair got dropped w new there here p q low high good a b joined (link_there w q joined.from joined.onto high good b joined.is) is
-pair_at got dropped (event.Turn t n) w new p q low high good joined a b is = cc is
-pair_at got dropped (event.Deliver t) w new p q low high good joined a b is = cc is
-pair_at got dropped (event.Route x) w new p q low high good joined a b is = cc is
-pair_at got dropped event.HostPut w new p q low high good joined a b is =
+pair_at got dropped (event.Turn t n) w new p q low high plain good joined a b is = cc is
+pair_at got dropped (event.Deliver t) w new p q low high plain good joined a b is = cc is
+pair_at got dropped (event.Route x) w new p q low high plain good joined a b is = cc is
+pair_at got dropped event.HostPut w new p q low high plain good joined a b is =
     put_pair got dropped w new p q low high good a b joined.0 joined.1 (link_there w q _ _ high good b (ap (kind_of w.shape) joined.1 ∙ link_from_host w.shape)) is
-pair_at got dropped event.HostTake w new p q low high good joined a b is =
+pair_at got dropped event.HostTake w new p q low high plain good joined a b is =
     take_pair got dropped w new p q low high good a b joined.0 joined.1 (link_there w q _ _ high good b (ap (kind_of w.shape) joined.1 ∙ link_to_host w.shape)) is
-pair_at got dropped (event.Report x) w new p q low high good joined a b is = cc is
-pair_at got dropped event.Begin w new p q low high good joined a b is = cc is
-pair_at got dropped (event.Confirm x) w new p q low high good joined a b is = cc is
-pair_at got dropped event.Announce w new p q low high good joined a b is = cc is
-pair_at got dropped (event.Release x) w new p q low high good joined a b is = cc is
-pair_at got dropped (event.Go x) w new p q low high good joined a b is = cc is
+pair_at got dropped (event.Report x) w new p q low high plain good joined a b is = absurd plain
+pair_at got dropped event.Begin w new p q low high plain good joined a b is = absurd plain
+pair_at got dropped (event.Confirm x) w new p q low high plain good joined a b is = absurd plain
+pair_at got dropped event.Announce w new p q low high plain good joined a b is = absurd plain
+pair_at got dropped (event.Release x) w new p q low high plain good joined a b is = absurd plain
+pair_at got dropped (event.Go x) w new p q low high plain good joined a b is = absurd plain
 
-by_pair : (got : ℕ → List Letter) (dropped : List Letter) (e : Event) (w new : WorldView) (p q : ℕ) (low high : Option PartView) → Good w → Joined w e p q → slice_get w.parts p ≡ low → slice_get w.parts q ≡ high →
+by_pair : (got : ℕ → List Letter) (dropped : List Letter) (e : Event) (w new : WorldView) (p q : ℕ) (low high : Option PartView) → Plain e → Good w → Joined w e p q → slice_get w.parts p ≡ low → slice_get w.parts q ≡ high →
     option_map (with_both w p q) (meets_at e low high) ≡ Some new → Reached got dropped w (meeting_steps (reach_of w) e low high) new
-by_pair got dropped e w new p q (Some low) (Some high) good joined a b is = pair_at got dropped e w new p q low high good joined (on_read w p low good a) (on_read w q high good b) is
-by_pair got dropped e w new p q (Some low) None good joined a b is = cc is
-by_pair got dropped e w new p q None high good joined a b is = cc is
+by_pair got dropped e w new p q (Some low) (Some high) plain good joined a b is = pair_at got dropped e w new p q low high plain good joined (on_read w p low good a) (on_read w q high good b) is
+by_pair got dropped e w new p q (Some low) None plain good joined a b is = cc is
+by_pair got dropped e w new p q None high plain good joined a b is = cc is
 
 -- ---- an event on the machine
 
@@ -543,30 +592,15 @@ joined_at w event.Announce good = tt
 joined_at w (event.Release x) good = free w (event.Release x) (places w.shape (event.Release x)) (λ p q. tt)
 joined_at w (event.Go x) good = free w (event.Go x) (places w.shape (event.Go x)) (λ p q. tt)
 
-by_place : (got : ℕ → List Letter) (dropped : List Letter) (e : Event) (w new : WorldView) (at : Places) → Good w → JoinedAt w e at → happened_at e w at ≡ Some new → Reached got dropped w (steps_at e w at) new
-by_place got dropped e w new Nowhere good joined is = cc is
-by_place got dropped e w new (One p) good joined is = by_part got dropped e w new p (slice_get w.parts p) good refl is
-by_place got dropped e w new (Two p q) good joined is = by_pair got dropped e w new p q (slice_get w.parts p) (slice_get w.parts q) good joined refl refl is
+by_place : (got : ℕ → List Letter) (dropped : List Letter) (e : Event) (w new : WorldView) (at : Places) → Plain e → Good w → JoinedAt w e at → happened_at e w at ≡ Some new → Reached got dropped w (steps_at e w at) new
+by_place got dropped e w new Nowhere plain good joined is = cc is
+by_place got dropped e w new (One p) plain good joined is = by_part got dropped e w new p (slice_get w.parts p) plain good refl is
+by_place got dropped e w new (Two p q) plain good joined is = by_pair got dropped e w new p q (slice_get w.parts p) (slice_get w.parts q) plain good joined refl refl is
 
-pub event_reached : (got : ℕ → List Letter) (dropped : List Letter) (e : Event) (w new : WorldView) → Good w → happened e w ≡ Some new → Reached got dropped w (event_steps e w) new
-event_reached got dropped e w new good is = by_place got dropped e w new (places w.shape e) good (joined_at w e good) is
-
-pub run_reached : (got : ℕ → List Letter) (dropped : List Letter) (es : List Event) (w end : WorldView) → Good w → Run w es end → Reached got dropped w (bag_of w es) end
-run_reached got dropped [] w end good run = subst (λ (x : WorldView). Reached got dropped w [] x) run (reached_none got dropped w good)
-run_reached got dropped (e ∷ es) w end good run =
-    let one = event_reached got dropped e w run.0 good run.1 in
-    let rest = run_reached one.now one.gone es run.0 end one.good run.3 in
-    subst (λ (steps : List BagStep). Reached got dropped w (event_steps e w ++ steps) end) (sym (ap (λ (o : Option WorldView). unwrap_or (option_map (λ mid. bag_of mid es) o) []) run.1))
-    (reached_join got dropped w run.0 end (event_steps e w) (bag_of run.0 es) one rest)
-
--- ---- walks
+pub event_reached : (got : ℕ → List Letter) (dropped : List Letter) (e : Event) (w new : WorldView) → Plain e → Good w → happened e w ≡ Some new → Reached got dropped w (event_steps e w) new
+event_reached got dropped e w new plain good is = by_place got dropped e w new (places w.shape e) plain good (joined_at w e good) is
 
 -- each run is a walk
 pub run_walk : (start end : WorldView) (events : List Event) → Run start events end → Walk start events end
 run_walk start end [] run = run
 run_walk start end (e ∷ es) run = (run.0, run.1, run_walk run.0 end es run.3)
-
--- what holds of a machine holds after a walk
-pub walk_good : (events : List Event) (start end : WorldView) → Good start → Walk start events end → Good end
-walk_good [] start end good walk = subst Good walk good
-walk_good (e ∷ es) start end good walk = walk_good es walk.0 end (event_reached (λ _. []) [] e start walk.0 good walk.1).good walk.2

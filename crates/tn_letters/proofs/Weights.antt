@@ -23,7 +23,7 @@ use Rattle.tn_router.specs.declared.work.Work.{Work}
 use Rattle.tn_router.specs.Left.{copies_left, copies_out}
 use Rattle.tn_node.specs.PortRows.{at as waits_for, with_at}
 use Rattle.tn_router.specs.RouterView.{RouterView}
-use Rattle.tn_rows.specs.PartView.{PartView, TileV, RouterV, LinkV, HostV, AbsentV}
+use Rattle.tn_rows.specs.PartView.{PartView, TileV, RouterV, LinkV, HostV, DetectorV, AbsentV}
 use Rattle.tn_rows.specs.WorldView.{WorldView}
 use Rattle.tn_letters.specs.declared.place.Place.{Place}
 use Rattle.tn_letters.specs.declared.place.Place.TheVariants as place
@@ -108,6 +108,7 @@ part_w w n reach p (TileV v) = tile_w w reach v
 part_w w n reach p (RouterV v) = router_w w reach v
 part_w w n reach p (LinkV v) = link_w w (link_board n p) n reach v
 part_w w n reach p (HostV s) = 0
+part_w w n reach p (DetectorV v) = 0
 part_w w n reach p AbsentV = 0
 
 -- a letter in its place
@@ -205,6 +206,7 @@ part_is w n reach p (RouterV v) =
     all
 part_is w n reach p (LinkV v) = link_is w n reach p v
 part_is w n reach p (HostV s) = refl
+part_is w n reach p (DetectorV v) = refl
 part_is w n reach p AbsentV = refl
 
 standing_by : (w : Letter → ℕ) (v : WorldView) → sum_by w (standing_letters v) ≡ sum_by (λ p. part_w w v.shape (reach_of v) p (get_or v.parts p AbsentV)) (range_with_len 0 (part_count v.shape))

@@ -6,7 +6,9 @@ use Rattle.tn_base.specs.declared.message.Dest.TheVariants as dest
 use Rattle.tn_base.specs.declared.shape.ShapeNumbers.{ShapeNumbers}
 use Rattle.tn_base.specs.Address.{has_thread}
 use Rattle.tn_base.specs.Message.{has_dest, slot_bytes}
+use Rattle.tn_base.specs.Parts.{visited}
 use Rattle.tn_base.specs.Shape.{is_shape}
+use Rattle.tn_detect.specs.DetectorView.{fresh_detector}
 use Rattle.tn_host.specs.declared.script.ScriptItem.{ScriptItem}
 use Rattle.tn_host.specs.declared.script.ScriptItem.TheVariants as item
 use Rattle.tn_host.specs.Rows.{fresh_state}
@@ -14,7 +16,7 @@ use Rattle.tn_keys.specs.Accepted.{Accepted}
 use Rattle.tn_keys.specs.Tables.{Table}
 use Rattle.tn_router.specs.Kept.{fresh_router}
 use Rattle.tn_rows.specs.Events.{IsWorld}
-use Rattle.tn_rows.specs.PartView.{PartView, TileV, RouterV, LinkV, HostV, AbsentV}
+use Rattle.tn_rows.specs.PartView.{PartView, TileV, RouterV, LinkV, HostV, DetectorV, AbsentV}
 use Rattle.tn_rows.specs.Runs.{Run}
 use Rattle.tn_rows.specs.WorldView.{WorldView}
 use Rattle.tn_thread.specs.declared.thread.Thread.{Thread}
@@ -32,12 +34,13 @@ IsSendable n (item.Send t bytes) = IsTrue (has_dest n (dest.Thread t)) × IsTrue
 IsSendable n item.AwaitIdle = Unit {0}
 
 -- a tile at its start is over some code, with its threads at their start; a router has some table, and like a link it
--- holds no packet; the host has a script of messages of the machine
+-- holds no packet; the host has a script of messages of the machine; the detector has no report
 abbrev pub StartsSo : ShapeNumbers → PartView → Type 0
 StartsSo n (TileV v) = (words : List ℕ) × (threads : List Thread) × AreStarts n v.plan.tile threads × (v ≡ fresh_tile n v.plan.tile words threads)
 StartsSo n (RouterV v) = (beats : Table) × (v ≡ fresh_router n v.plan.board beats)
 StartsSo n (LinkV v) = v ≡ record { packets = []; capacity = n.link }
 StartsSo n (HostV s) = (script : List ScriptItem) × AllByRecursion (IsSendable n) script × (s ≡ fresh_state script)
+StartsSo n (DetectorV v) = v ≡ fresh_detector (visited n)
 StartsSo n AbsentV = Unit {0}
 
 -- the start of a machine: the parts are those of its shape, each is at its start, and the routers' tables are accepted
@@ -53,6 +56,7 @@ dropped_on (TileV v) = v.now.dropped
 dropped_on (RouterV v) = 0
 dropped_on (LinkV v) = 0
 dropped_on (HostV s) = 0
+dropped_on (DetectorV v) = 0
 dropped_on AbsentV = 0
 
 abbrev pub dropped_in : WorldView → ℕ

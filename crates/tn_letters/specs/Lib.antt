@@ -1,9 +1,11 @@
-pub mod Letters
-pub mod State
-pub mod Machine
-pub mod Tiles
-pub mod Standing
-pub mod Steps
 pub mod Conserved
 pub mod Law
+pub mod Letters
+pub mod Machine
+pub mod NextStep
+pub mod Settled
 pub mod SlotLaw
+pub mod Standing
+pub mod State
+pub mod Steps
+pub mod Tiles

@@ -14,7 +14,7 @@ use Rattle.tn_router.specs.declared.work.Work.{Work}
 use Rattle.tn_router.specs.Left.{copies_left, copies_out}
 use Rattle.tn_node.specs.PortRows.{at as waits_for}
 use Rattle.tn_router.specs.RouterView.{RouterView}
-use Rattle.tn_rows.specs.PartView.{PartView, TileV, RouterV, LinkV, HostV, AbsentV}
+use Rattle.tn_rows.specs.PartView.{PartView, TileV, RouterV, LinkV, HostV, DetectorV, AbsentV}
 use Rattle.tn_rows.specs.WorldView.{WorldView}
 use Rattle.tn_slots.specs.Pool.{slot_at}
 use Rattle.tn_tile.specs.Step.{pending_at}
@@ -24,6 +24,7 @@ use Rattle.tn_letters.specs.declared.place.Place.TheVariants as place
 use Rattle.tn_keys.specs.Copies.{Copy, each_below, only_if}
 use Rattle.tn_keys.specs.Reach.{Reach}
 use Rattle.tn_letters.specs.Letters.{letter_for, letters_to, link_board, packet_letters}
+use Rattle.tn_letters.specs.Settled.{settled}
 use Rattle.tn_letters.specs.State.{BagState}
 use Rattle.tn_letters.specs.Tiles.{held_of, host_on, letter_in, reach_of, thread_of}
 
@@ -115,6 +116,7 @@ part_standing n reach p (TileV v) = tile_standing reach p v
 part_standing n reach p (RouterV v) = router_standing reach p v
 part_standing n reach p (LinkV v) = link_standing n reach p v
 part_standing n reach p (HostV s) = []
+part_standing n reach p (DetectorV v) = []
 part_standing n reach p AbsentV = []
 
 -- on the part of this number of a machine
@@ -130,16 +132,16 @@ abbrev pub standing_letters : WorldView → List Letter
 standing_letters w = map (λ (q : Place × Letter). q.1) (standing w)
 
 -- the bag machine's state of a machine before its first event. The machine shows no letter that was handed to a thread or dropped,
--- and there is no detector yet
+-- and not how often its rest was announced. Threads and script are those of the machine once a release that is under way is over
 abbrev pub bag_at : WorldView → BagState
 bag_at w = record {
-  threads = thread_of w;
+  threads = thread_of (settled w);
   flight = standing_letters w;
   got = λ a. [];
   held = held_of w;
   dropped = [];
   host = (host_on w).got;
-  script = (host_on w).script;
+  script = (host_on (settled w)).script;
   host_sends = (host_on w).sends;
   announcements = 0;
 }

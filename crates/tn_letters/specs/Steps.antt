@@ -16,7 +16,7 @@ use Rattle.tn_host.specs.declared.script.ScriptItem.TheVariants as item
 use Rattle.tn_host.specs.Rows.{host_letter}
 use Rattle.tn_host.specs.Script.{first_item}
 use Rattle.tn_rows.specs.Events.{carried, happened}
-use Rattle.tn_rows.specs.PartView.{PartView, TileV, RouterV, LinkV, HostV, AbsentV}
+use Rattle.tn_rows.specs.PartView.{PartView, TileV, RouterV, LinkV, HostV, DetectorV, AbsentV}
 use Rattle.tn_rows.specs.Places.{Places, Nowhere, One, Two, places}
 use Rattle.tn_rows.specs.WorldView.{WorldView}
 use Rattle.tn_slots.specs.Pool.{key_for, queue_at}
@@ -101,12 +101,18 @@ tile_steps reach (event.Turn t n) v = turn_steps t.0 (place_in_tile v.plan.shape
 tile_steps reach (event.Deliver t) v = delivery_steps reach (pending_at v.now (place_in_tile v.plan.shape t.0)) v
 tile_steps reach _ v = []
 
+-- the steps that an event on the detector alone is: it announces the machine's rest, or begins to confirm, which is no step
+abbrev pub detector_steps : Event → List BagStep
+detector_steps event.Announce = bag.Announce ∷ []
+detector_steps _ = []
+
 abbrev pub part_steps : Reach → Event → Option PartView → List BagStep
 part_steps reach e None = []
 part_steps reach e (Some (TileV v)) = tile_steps reach e v
 part_steps reach e (Some (RouterV v)) = []
 part_steps reach e (Some (LinkV v)) = []
 part_steps reach e (Some (HostV s)) = []
+part_steps reach e (Some (DetectorV v)) = detector_steps e
 part_steps reach e (Some AbsentV) = []
 
 -- a part takes the packet that the other part of an event gives
@@ -115,6 +121,7 @@ taking_steps reach packet (TileV v) = delivery_steps reach packet v
 taking_steps reach packet (RouterV v) = []
 taking_steps reach packet (LinkV v) = []
 taking_steps reach packet (HostV s) = []
+taking_steps reach packet (DetectorV v) = []
 taking_steps reach packet AbsentV = []
 
 abbrev pub arrival_steps : Reach → Option Packet → Option PartView → List BagStep

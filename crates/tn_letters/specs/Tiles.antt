@@ -13,7 +13,7 @@ use Rattle.tn_tile.specs.declared.sender.Sender.{Sender}
 use Rattle.tn_tile.specs.Kept.{fresh_tile}
 use Rattle.tn_tile.specs.Step.{no_thread, thread_at}
 use Rattle.tn_tile.specs.TileView.{TileView}
-use Rattle.tn_rows.specs.PartView.{PartView, TileV, RouterV, LinkV, HostV, AbsentV}
+use Rattle.tn_rows.specs.PartView.{PartView, TileV, RouterV, LinkV, HostV, DetectorV, AbsentV}
 use Rattle.tn_rows.specs.WorldView.{WorldView}
 use Rattle.tn_keys.specs.Reach.{Reach, reach}
 use Rattle.tn_keys.specs.Tables.{Table}
@@ -29,6 +29,7 @@ tile_in (TileV v) = v
 tile_in (RouterV v) = no_tile
 tile_in (LinkV v) = no_tile
 tile_in (HostV s) = no_tile
+tile_in (DetectorV v) = no_tile
 tile_in AbsentV = no_tile
 
 -- the part of the tile that the thread at an address is on, and the tile
@@ -66,6 +67,7 @@ beats_on (TileV v) = []
 beats_on (RouterV v) = v.plan.beats
 beats_on (LinkV v) = []
 beats_on (HostV s) = []
+beats_on (DetectorV v) = []
 beats_on AbsentV = []
 
 -- the tables of the machine: by board, those of its router
@@ -81,6 +83,7 @@ host_in (TileV v) = no_host
 host_in (RouterV v) = no_host
 host_in (LinkV v) = no_host
 host_in (HostV s) = s
+host_in (DetectorV v) = no_host
 host_in AbsentV = no_host
 
 -- the host is the first part

@@ -2,12 +2,24 @@
 
 ghost use Rattle.tn_letters.specs.Conserved.{EveryRunConserves, EveryRunHands, EveryRunHandsTheHost};
 ghost use Rattle.tn_letters.specs.Law.{EveryRunIsBagRun};
+ghost use Rattle.tn_letters.specs.NextStep.{EveryAnswerIsRead, EveryAnswerWaits, EveryIdleThreadIsAnswered};
 ghost use Rattle.tn_letters.specs.SlotLaw.{EveryEventKeepsSlots, EveryPutIsOfItsPacket, EveryRunKeepsSlots, EveryThreadKeepsItsSlots};
 
 /// Each run of a machine from its start is a run of the bag machine: what a thread is handed was sent to it, and a letter
 /// that is neither handed nor dropped is in a named place.
+/// An announcement of the machine's rest is a step of the run, and the step is enabled only if no letter is in flight. No other event
+/// of the detector is a step.
 pub fn law_runs()
     ensures { EveryRunIsBagRun }
+{}
+
+/// If a thread is idle when the machine's rest is announced, its next step ends its idle with the announced value. A thread that has
+/// an answer does not change before its next step, and that step reads the answer. In a machine the thread has the answer before its
+/// next turn.
+pub fn law_answers()
+    ensures waits { EveryAnswerWaits }
+    ensures read { EveryAnswerIsRead }
+    ensures machines { EveryIdleThreadIsAnswered }
 {}
 
 /// Letters are conserved in each run of the bag machine: those that were in flight and those that its steps sent are those

@@ -1,4 +1,4 @@
-use Rattle.tn_letters.proofs.Starts.{bag_run}
+use Rattle.tn_letters.proofs.Meaning.{bag_run}
 use Rattle.tn_letters.proofs.laws.law_runs.Goals as goal
 
 pub returns : goal.returns
