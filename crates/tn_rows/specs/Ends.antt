@@ -1,23 +1,21 @@
 -- How runs end.
-use Rattle.std.specs.Prelude.{ℕ, ◌≡◌, ◌==◌, ◌&&◌, Bool, true, not, List, [], ◌∷◌, Option, Some, None, MatchOption, option_and_then, option_map, slice_get, if◌then◌else◌}
-use Rattle.std.specs.List.{list_all}
+use Rattle.std.specs.Prelude.{ℕ, ◌≡◌, ◌==◌, Bool, List, [], ◌∷◌, Option, Some, None, MatchOption, option_and_then, option_map, slice_get, if◌then◌else◌}
 use Rattle.tn_base.specs.declared.event.Event.{Event}
 use Rattle.tn_base.specs.declared.event.Event.TheVariants as event
 use Rattle.tn_base.specs.declared.event.Outcome.{Outcome}
 use Rattle.tn_base.specs.declared.event.Outcome.TheVariants as outcome
 use Rattle.tn_base.specs.declared.ids.ThreadId.{ThreadId}
 use Rattle.tn_base.specs.Address.{place_in_tile}
-use Rattle.tn_host.specs.Rows.{at_end}
+use Rattle.tn_detect.specs.declared.answer.Answer.{Answer}
+use Rattle.tn_detect.specs.declared.answer.Answer.TheVariants as answer
 use Rattle.tn_rows.specs.Events.{Rests}
-use Rattle.tn_rows.specs.PartView.{PartView, TileV, RouterV, LinkV, HostV, AbsentV}
-use Rattle.tn_rows.specs.Places.{part_of}
+use Rattle.tn_rows.specs.PartView.{PartView, TileV, RouterV, LinkV, HostV, DetectorV, AbsentV}
+use Rattle.tn_rows.specs.Places.{detector_part, part_of}
 use Rattle.tn_rows.specs.WorldView.{WorldView}
-use Rattle.tn_router.specs.Rows.{is_still as router_rests}
 use Rattle.tn_thread.specs.declared.state.ThreadState.{ThreadState}
 use Rattle.tn_thread.specs.declared.state.ThreadState.TheVariants as state
 use Rattle.tn_thread.specs.declared.thread.Thread.{Thread}
 use Rattle.tn_tile.specs.Rows.{is_here}
-use Rattle.tn_tile.specs.Still.{has_live, is_nil, is_still}
 use Rattle.tn_tile.specs.Step.{thread_at}
 
 abbrev pub spent_by : ThreadId → Bool → Option Outcome
@@ -40,6 +38,7 @@ ended_on t (TileV v) = if is_here v.plan t.0 then ended_with v.plan.shape.fuel t
 ended_on t (RouterV v) = None
 ended_on t (LinkV v) = None
 ended_on t (HostV s) = None
+ended_on t (DetectorV v) = None
 ended_on t AbsentV = None
 
 -- how a run ends with a routing on a part that is now this one: its router found a bad key
@@ -48,12 +47,29 @@ bad_key_on (TileV v) = None
 bad_key_on (RouterV v) = option_map outcome.BadKey v.now.ended
 bad_key_on (LinkV v) = None
 bad_key_on (HostV s) = None
+bad_key_on (DetectorV v) = None
 bad_key_on AbsentV = None
 
--- how a run ends with an event after which the machine is this one, where the event is final. Before it no part tells an end
+-- how a run ends with an announcement of this answer: every thread has ended, and the host's script is at its end
+abbrev pub done_with : Option Answer → Option Outcome
+done_with None = None
+done_with (Some (answer.Live votes)) = None
+done_with (Some answer.AllDead) = Some outcome.Done
+
+-- how a run ends with an announcement of a part that is now this one
+abbrev pub done_on : PartView → Option Outcome
+done_on (TileV v) = None
+done_on (RouterV v) = None
+done_on (LinkV v) = None
+done_on (HostV s) = None
+done_on (DetectorV v) = done_with v.now.answer
+done_on AbsentV = None
+
+-- how a run ends with an event after which the machine is this one, if the event is final. Before it no part tells an end
 abbrev pub final_of : Event → WorldView → Option Outcome
 final_of (event.Turn t n) w = option_and_then (ended_on t) (option_and_then (slice_get w.parts) (part_of w.shape t))
 final_of (event.Route p) w = option_and_then bad_key_on (slice_get w.parts p.0)
+final_of event.Announce w = option_and_then done_on (slice_get w.parts (detector_part w.shape))
 final_of _ w = None
 
 abbrev pub last_of : List Event → Option Event
@@ -66,19 +82,6 @@ abbrev pub final_after : Option Event → WorldView → Option Outcome
 final_after None w = None
 final_after (Some e) w = final_of e w
 
--- all threads of a part ended, and no message stands there; of the host the script is at its end
-abbrev pub is_over : PartView → Bool
-is_over (TileV v) = is_still v.now && not (has_live v.now)
-is_over (RouterV v) = router_rests v.now
-is_over (LinkV v) = is_nil v.packets
-is_over (HostV s) = at_end s
-is_over AbsentV = true
-
--- how a run ends in which nothing more can happen: all threads ended, no message stands anywhere and the host's script is at its
--- end, or not
-abbrev pub rest_outcome : WorldView → Outcome
-rest_outcome w = if list_all is_over w.parts then outcome.Done else outcome.Jammed
-
--- the outcome of a run: that of its last event where it is final, else nothing more can happen
+-- the outcome of a run: that of its last event if the event is final. Else no event is enabled after it, and the run is jammed
 abbrev pub IsOutcome : List Event → WorldView → Outcome → Type 0
-IsOutcome history end o = MatchOption (final_after (last_of history) end) (Rests end × (o ≡ rest_outcome end)) (λ f. o ≡ f)
+IsOutcome history end o = MatchOption (final_after (last_of history) end) (Rests end × (o ≡ outcome.Jammed)) (λ f. o ≡ f)

@@ -1,3 +1,4 @@
+pub mod DetectorDeed
 pub mod Ends
 pub mod Events
 pub mod Listed

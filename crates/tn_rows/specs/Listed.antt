@@ -7,7 +7,7 @@ use Rattle.tn_base.specs.declared.ids.PartId.{PartId}
 use Rattle.tn_base.specs.declared.ids.ThreadId.{ThreadId}
 use Rattle.tn_base.specs.declared.shape.ShapeNumbers.{ShapeNumbers}
 use Rattle.tn_base.specs.Address.{thread_at}
-use Rattle.tn_base.specs.Parts.{kind_of, part_count}
+use Rattle.tn_base.specs.Parts.{kind_of, part_count, visited}
 use Rattle.tn_base.specs.Shape.{thread_count}
 use Rattle.tn_rows.specs.Places.{is_router, leads_from, leads_to}
 
@@ -51,6 +51,26 @@ routings n = flat_map (λ p. event_if (is_router (kind_of n p)) (event.Route (pa
 abbrev pub of_host : List Event
 of_host = event.HostPut ∷ event.HostTake ∷ []
 
+-- an event of the detector with each part that it visits, by part
+abbrev pub by_part : (PartId → Event) → ShapeNumbers → List Event
+by_part e n = map (λ i. e (part_id i)) (range_with_len 0 (visited n))
+
+-- the detector's events: parts report, it begins, it confirms parts, it announces, it releases parts and lets them go on
+abbrev pub reports : ShapeNumbers → List Event
+reports n = by_part event.Report n
+
+abbrev pub confirmations : ShapeNumbers → List Event
+confirmations n = by_part event.Confirm n
+
+abbrev pub releases : ShapeNumbers → List Event
+releases n = by_part event.Release n
+
+abbrev pub goings : ShapeNumbers → List Event
+goings n = by_part event.Go n
+
+abbrev pub of_detector : ShapeNumbers → List Event
+of_detector n = reports n ++ (event.Begin ∷ []) ++ confirmations n ++ (event.Announce ∷ []) ++ releases n ++ goings n
+
 -- the events that can be enabled, in their order
 abbrev pub listed : ShapeNumbers → List Event
-listed n = turns n ++ deliveries n ++ departures n ++ arrivals n ++ routings n ++ of_host
+listed n = turns n ++ deliveries n ++ departures n ++ arrivals n ++ routings n ++ of_host ++ of_detector n

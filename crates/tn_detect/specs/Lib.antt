@@ -1,0 +1,5 @@
+pub mod DetectorView
+pub mod Notes
+pub mod Reports
+pub mod Rows
+pub mod Told

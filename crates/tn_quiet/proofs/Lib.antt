@@ -1,0 +1,11 @@
+pub mod Detectors
+pub mod Hosts
+pub mod Lists
+pub mod Machines
+pub mod OpenMachines
+pub mod PartKinds
+pub mod Parts
+pub mod Routers
+pub mod Runs
+pub mod Tiles
+pub mod Worlds
