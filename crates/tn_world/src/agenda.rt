@@ -171,7 +171,7 @@ impl Agenda {
             Contents::Tile(tile) => self.event_of_tile(world, tile),
             Contents::Router(router) => self.event_of_router(world, router),
             Contents::Host(host) => self.event_of_host(world, host),
-            Contents::Link(_) | Contents::Absent => None,
+            Contents::Link(_) | Contents::Detector(_) => None,
         };
         if found.is_none() {
             self.go_to(Stage::Arrivals);
