@@ -225,12 +225,10 @@ impl<L: Link> Part<L> {
     pub(crate) fn deliver(&mut self, t: ThreadId) -> Did
         ensures { Does (moved result) (after (event.Deliver t) crossing.None self.old) self.old self.new }
     {
-        match &mut self.contents {
-            Contents::Tile(tile) => deliver_tile(tile, t),
-            Contents::Router(_) | Contents::Link(_) | Contents::Host(_) | Contents::Detector(_) => {
-                Did::Nothing
-            }
-        }
+        let Contents::Tile(tile) = &mut self.contents else {
+            return Did::Nothing;
+        };
+        deliver_tile(tile, t)
     }
 
     /// Whether a thread can make a step.
