@@ -241,8 +241,8 @@ visit_rests : (w : WorldView) (v : Visit) (p : PartId) → NoneOf w (by_part (vi
 visit_rests w v p none =
     visit_is w v p
     ∙ there_or w (visit_event v p) (ltb p.0 (visited w.shape)) p.0 (detector_part w.shape)
-      (λ is. let less : p.0 < visited w.shape = ltb-true p.0 (visited w.shape) is in
-        sym (visit_is w v p) ∙ mapped_none w (λ i. visit_event v (part_id i)) 0 (visited w.shape) p.0 none (omega arith) (omega (arith, less)))
+    (λ is. let less : p.0 < visited w.shape = ltb-true p.0 (visited w.shape) is in
+    sym (visit_is w v p) ∙ mapped_none w (λ i. visit_event v (part_id i)) 0 (visited w.shape) p.0 none (omega arith) (omega (arith, less)))
 
 -- what the detector's list says of its kinds
 record Quiet (w : WorldView) : Type 0 where

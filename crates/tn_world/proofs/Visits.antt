@@ -201,7 +201,7 @@ pub can_visit_is : (v : Visit) (p : PartId) (low : PartView) (d : DetectorView) 
 can_visit_is v p low d f told h =
     ap (λ (m : Option Met). is_some m) (visit_meets v p low d f (sym told) h)
     ∙ met_if (low_row v (value_of d.now.answer) f low) d (visit_row v d.visited p.0 (view_of f) d.now) (detector_now_by d (visit_row v d.visited p.0 (view_of f) d.now)) refl
-      (λ t is. low_some v p.0 (value_of d.now.answer) low d t f is)
+    (λ t is. low_some v p.0 (value_of d.now.answer) low d t f is)
 
 pub visit_not : (v : Visit) (p : PartId) (low : PartView) (d : DetectorView) (f : PartFacts) → Some f ≡ told_by low → p.0 < d.visited → is_some (visit_row v d.visited p.0 (view_of f) d.now) ≡ false → meets (visit_event v p) low (DetectorV d) ≡ None
 visit_not v p low d f told h not = none_is (meets (visit_event v p) low (DetectorV d)) (can_visit_is v p low d f told h ∙ not)

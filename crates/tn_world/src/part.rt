@@ -152,7 +152,8 @@ impl<L: Link> Part<L> {
     {
         match &self.contents {
             Contents::Tile(tile) => Some(tile),
-            Contents::Router(_) | Contents::Link(_) | Contents::Host(_) | Contents::Detector(_) => None,
+            Contents::Router(_) | Contents::Link(_) | Contents::Host(_) | Contents::Detector(_) =>
+                None,
         }
     }
 
@@ -162,7 +163,8 @@ impl<L: Link> Part<L> {
     {
         match &self.contents {
             Contents::Router(router) => Some(router),
-            Contents::Tile(_) | Contents::Link(_) | Contents::Host(_) | Contents::Detector(_) => None,
+            Contents::Tile(_) | Contents::Link(_) | Contents::Host(_) | Contents::Detector(_) =>
+                None,
         }
     }
 
@@ -172,7 +174,8 @@ impl<L: Link> Part<L> {
     {
         match &self.contents {
             Contents::Link(link) => Some(link),
-            Contents::Tile(_) | Contents::Router(_) | Contents::Host(_) | Contents::Detector(_) => None,
+            Contents::Tile(_) | Contents::Router(_) | Contents::Host(_) | Contents::Detector(_) =>
+                None,
         }
     }
 
@@ -182,7 +185,8 @@ impl<L: Link> Part<L> {
     {
         match &self.contents {
             Contents::Host(host) => Some(host),
-            Contents::Tile(_) | Contents::Router(_) | Contents::Link(_) | Contents::Detector(_) => None,
+            Contents::Tile(_) | Contents::Router(_) | Contents::Link(_) | Contents::Detector(_) =>
+                None,
         }
     }
 
@@ -215,9 +219,8 @@ impl<L: Link> Part<L> {
     {
         match &mut self.contents {
             Contents::Tile(tile) => turn_tile(tile, t, n),
-            Contents::Router(_) | Contents::Link(_) | Contents::Host(_) | Contents::Detector(_) => Ok(
-                Did::Nothing,
-            ),
+            Contents::Router(_) | Contents::Link(_) | Contents::Host(_) | Contents::Detector(_) =>
+                Ok(Did::Nothing),
         }
     }
 
@@ -237,7 +240,8 @@ impl<L: Link> Part<L> {
     {
         match &self.contents {
             Contents::Tile(tile) => tile.is_here(t) && tile.can_turn(t),
-            Contents::Router(_) | Contents::Link(_) | Contents::Host(_) | Contents::Detector(_) => false,
+            Contents::Router(_) | Contents::Link(_) | Contents::Host(_) | Contents::Detector(_) =>
+                false,
         }
     }
 
@@ -247,7 +251,8 @@ impl<L: Link> Part<L> {
     {
         match &self.contents {
             Contents::Tile(tile) => tile.is_here(t) && tile.can_deliver(t),
-            Contents::Router(_) | Contents::Link(_) | Contents::Host(_) | Contents::Detector(_) => false,
+            Contents::Router(_) | Contents::Link(_) | Contents::Host(_) | Contents::Detector(_) =>
+                false,
         }
     }
 
@@ -288,7 +293,8 @@ impl<L: Link> Part<L> {
     {
         match &self.contents {
             Contents::Link(link) => link.front().is_some(),
-            Contents::Tile(_) | Contents::Router(_) | Contents::Host(_) | Contents::Detector(_) => false,
+            Contents::Tile(_) | Contents::Router(_) | Contents::Host(_) | Contents::Detector(_) =>
+                false,
         }
     }
 
@@ -298,7 +304,8 @@ impl<L: Link> Part<L> {
     {
         match &self.contents {
             Contents::Tile(tile) => end_on(tile, t),
-            Contents::Router(_) | Contents::Link(_) | Contents::Host(_) | Contents::Detector(_) => None,
+            Contents::Router(_) | Contents::Link(_) | Contents::Host(_) | Contents::Detector(_) =>
+                None,
         }
     }
 
@@ -308,7 +315,8 @@ impl<L: Link> Part<L> {
     {
         match &self.contents {
             Contents::Router(router) => router.ended().map(Outcome::BadKey),
-            Contents::Tile(_) | Contents::Link(_) | Contents::Host(_) | Contents::Detector(_) => None,
+            Contents::Tile(_) | Contents::Link(_) | Contents::Host(_) | Contents::Detector(_) =>
+                None,
         }
     }
 
