@@ -1,4 +1,4 @@
--- Where the links of the host stand: behind all other links, before the detector.
+-- Where the links of the host are, behind all other links, and where the detector is, behind these.
 use Rattle.std.proofs.Common.{ℕ, ◌≡◌, ◌≤◌, ◌-◌, ◌++◌, ◌∷◌, [], List, get_or, length, length-append, refl, ap, ◌∙◌, arith}
 use Rattle.std.proofs.lemmas.List.{get_or-append_right}
 use Rattle.tn_base.specs.declared.part.Kind.{Kind}
@@ -47,6 +47,10 @@ link_from_host n = last_parts n 2 (omega arith)
 -- the link to the host
 pub link_to_host : (n : ShapeNumbers) → kind_of n (part_count n - 3) ≡ link (router_part n 0) 0
 link_to_host n = last_parts n 3 (omega arith)
+
+-- the detector is the last part
+pub detector_last : (n : ShapeNumbers) → kind_of n (part_count n - 1) ≡ kind.Detector
+detector_last n = last_parts n 1 (omega arith)
 
 -- both are there, behind the host
 pub host_links_there : (n : ShapeNumbers) → 4 ≤ part_count n

@@ -14,7 +14,7 @@ pub data PartView : Type 0 where
   DetectorV : DetectorView → PartView
   AbsentV : PartView
 
--- the tile that a part is, the router, the link, and the host
+-- the tile that a part is, the router, the link, the host, and the detector
 abbrev pub tile_of : PartView → Option TileView
 tile_of (TileV v) = Some v
 tile_of (RouterV v) = None
@@ -46,3 +46,11 @@ host_of (LinkV v) = None
 host_of (HostV s) = Some s
 host_of (DetectorV v) = None
 host_of AbsentV = None
+
+abbrev pub detector_of : PartView → Option DetectorView
+detector_of (TileV v) = None
+detector_of (RouterV v) = None
+detector_of (LinkV v) = None
+detector_of (HostV s) = None
+detector_of (DetectorV v) = Some v
+detector_of AbsentV = None

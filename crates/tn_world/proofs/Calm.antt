@@ -5,7 +5,12 @@ use Rattle.std.specs.declared.result.Result.TheVariants.{Ok, Err}
 use Rattle.std.specs.declared.alloc.AllocError.{AllocError}
 use Rattle.std.proofs.Common.{◌≡◌, ℕ, ◌≤◌, ◌<◌, length, length-append, is_some, Bool, true, false, arith, List, [], ◌∷◌, ◌++◌, None, Some, refl, sym, subst, MatchOption, MatchResult, IsErr, ap, ◌∙◌}
 use Rattle.tn_base.specs.declared.event.Event.{Event}
+use Rattle.tn_base.specs.declared.event.Event.TheVariants as event
 use Rattle.tn_base.specs.declared.event.Outcome.{Outcome}
+use Rattle.tn_base.specs.declared.ids.PartId.{PartId}
+use Rattle.tn_world.specs.declared.detector.Visit.{Visit}
+use Rattle.tn_world.specs.declared.detector.Visit.TheVariants as visit
+use Rattle.tn_world.specs.Visits.{visit_event}
 use Rattle.tn_rows.specs.Ends.{final_after, final_of, last_of}
 use Rattle.tn_rows.specs.Events.{happened, Rests}
 use Rattle.tn_rows.specs.Runs.{IsLongest, LongTurns, Run}
@@ -137,6 +142,20 @@ pub makes : (r : Option Made) (did : Did) (e : Event) (ends : Bool) (old new : W
 makes None did e ends old new longest told made does = does_nothing (moved did) (happened e old) old new (ap moved made) does
 makes (Some m) did e ends old new longest told made does =
     subst (λ (m : Made). Told m.event m.ends old new) (sym made.1) (record { makes = record { happens = does_some (moved did) (happened e old) old new (ap moved made.0) does; longest = longest }; ends = told })
+
+went_by : (f : Event) (r : Option Made) (did : Did) (e : Event) (old new : WorldView) → e ≡ f → IsLongest f old → false ≡ is_some (final_of f new) → MatchOption r (did ≡ did_as.Nothing) (λ m. (did ≡ did_as.Moved) × (m ≡ record { event = e; ends = false })) → Does (moved did) (happened f old) old new →
+    MatchOption r ((new ≡ old) × (happened e old ≡ None)) (λ m. Told m.event m.ends old new)
+went_by f r did e old new is longest goes_on made does =
+    makes r did e false old new (subst (λ (e : Event). IsLongest e old) (sym is) longest) (subst (λ (e : Event). false ≡ is_some (final_of e new)) (sym is) goes_on) made
+    (subst (λ (e : Event). Does (moved did) (happened e old) old new) (sym is) does)
+
+-- a visit of the detector ends no run
+pub visit_made : (v : Visit) (p : PartId) (r : Option Made) (did : Did) (e : Event) (old new : WorldView) → e ≡ visit_event v p → MatchOption r (did ≡ did_as.Nothing) (λ m. (did ≡ did_as.Moved) × (m ≡ record { event = e; ends = false })) → Does (moved did) (happened (visit_event v p) old) old new →
+    MatchOption r ((new ≡ old) × (happened e old ≡ None)) (λ m. Told m.event m.ends old new)
+visit_made visit.Report p r did e old new is made does = went_by (event.Report p) r did e old new is tt refl made does
+visit_made visit.Confirm p r did e old new is made does = went_by (event.Confirm p) r did e old new is tt refl made does
+visit_made visit.Release p r did e old new is made does = went_by (event.Release p) r did e old new is tt refl made does
+visit_made visit.Go p r did e old new is made does = went_by (event.Go p) r did e old new is tt refl made does
 
 -- the first event that is enabled is made
 by_made : {M : Type 0} (r : Option M) (made_by : M → WorldView → WorldView → Type 0) (old new : WorldView) (xs : List Event) (e : Event) → First old xs e → MatchOption r ((new ≡ old) × (happened e old ≡ None)) (λ m. made_by m old new) → MatchOption r ((new ≡ old) × Rests old) (λ m. made_by m old new)

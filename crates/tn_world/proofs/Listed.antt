@@ -14,14 +14,14 @@ use Rattle.tn_base.specs.Shape.{thread_count}
 use Rattle.tn_rows.proofs.Meeting.{none_is}
 use Rattle.tn_rows.specs.Events.{after, happened, happened_at, with_part, Rests}
 use Rattle.tn_rows.specs.Listed.{arrivals, arrivals_from, deliveries, departures, departures_from, event_if, listed, nth_thread, of_host, part_id, routings, turns}
-use Rattle.tn_rows.specs.PartView.{PartView, TileV, RouterV, LinkV, HostV, AbsentV}
+use Rattle.tn_rows.specs.PartView.{PartView, TileV, RouterV, LinkV, HostV, DetectorV, AbsentV}
 use Rattle.tn_rows.specs.Places.{at_part, is_router, leads_from, leads_to, one_if, part_of, two_if}
 use Rattle.tn_rows.specs.WorldView.{WorldView}
 use Rattle.tn_stamp.specs.declared.entry.Crossing.TheVariants as crossing
 use Rattle.tn_tile.specs.Rows.{turn_row}
 use Rattle.tn_tile.specs.declared.state.TileState.{TileState}
 use Rattle.tn_tile.specs.TileView.{TileView, now_by}
-use Rattle.tn_world.proofs.Others.{high_past, joined, low_past, never, part_past, stands}
+use Rattle.tn_world.proofs.Others.{high_past, joined, low_past, part_past, stands}
 use Rattle.tn_world.proofs.Steps.{row_one}
 use Rattle.tn_world.specs.Plays.{First, NoneOf}
 
@@ -41,6 +41,7 @@ part_one t m (Some (TileV v)) e = ap (λ o. option_map TileV (now_by v o)) (row_
 part_one t m (Some (RouterV v)) e = refl
 part_one t m (Some (LinkV v)) e = refl
 part_one t m (Some (HostV s)) e = refl
+part_one t m (Some (DetectorV v)) e = refl
 part_one t m (Some AbsentV) e = refl
 
 at_one : (w : WorldView) (t : ThreadId) (m : ℕ) (o : Option ℕ) → happened_at (event.Turn t 1) w (at_part o) ≡ None → happened_at (event.Turn t m) w (at_part o) ≡ None
@@ -61,11 +62,11 @@ pub none_append : (w : WorldView) (xs ys : List Event) → NoneOf w xs → NoneO
 none_append w [] ys a b = b
 none_append w (x ∷ xs) ys a b = (a.0, none_append w xs ys a.1 b)
 
-none_left : (w : WorldView) (xs ys : List Event) → NoneOf w (xs ++ ys) → NoneOf w xs
+pub none_left : (w : WorldView) (xs ys : List Event) → NoneOf w (xs ++ ys) → NoneOf w xs
 none_left w [] ys a = tt
 none_left w (x ∷ xs) ys a = (a.0, none_left w xs ys a.1)
 
-none_right : (w : WorldView) (xs ys : List Event) → NoneOf w (xs ++ ys) → NoneOf w ys
+pub none_right : (w : WorldView) (xs ys : List Event) → NoneOf w (xs ++ ys) → NoneOf w ys
 none_right w [] ys a = a
 none_right w (x ∷ xs) ys a = none_right w xs ys a.1
 
@@ -89,7 +90,7 @@ pub none_mapped_all : (w : WorldView) (f : ℕ → Event) (i n : ℕ) → ((k : 
 none_mapped_all w f i zero all = tt
 none_mapped_all w f i (suc n) all = (all i (omega arith) (omega arith), none_mapped_all w f (i + 1) n (λ k low high. all k (omega arith) (omega arith)))
 
-mapped_none : (w : WorldView) (f : ℕ → Event) (i n k : ℕ) → NoneOf w (map f (range_with_len i n)) → i ≤ k → k < i + n → happened (f k) w ≡ None
+pub mapped_none : (w : WorldView) (f : ℕ → Event) (i n k : ℕ) → NoneOf w (map f (range_with_len i n)) → i ≤ k → k < i + n → happened (f k) w ≡ None
 mapped_none w f i zero k none low high = absurd (omega arith)
 mapped_none w f i (suc n) k none low high = elim (cases_order i k) [
   | inl e ↦ subst (λ j. happened (f j) w ≡ None) e none.0
@@ -99,7 +100,7 @@ mapped_none w f i (suc n) k none low high = elim (cases_order i k) [
   ]
 ]
 
-first_mapped : (w : WorldView) (f : ℕ → Event) (i n j : ℕ) → i ≤ j → j < i + n → ((k : ℕ) → k < j → happened (f k) w ≡ None) → IsSome (happened (f j) w) → First w (map f (range_with_len i n)) (f j)
+pub first_mapped : (w : WorldView) (f : ℕ → Event) (i n j : ℕ) → i ≤ j → j < i + n → ((k : ℕ) → k < j → happened (f k) w ≡ None) → IsSome (happened (f j) w) → First w (map f (range_with_len i n)) (f j)
 first_mapped w f i zero j low high none some = absurd (omega arith)
 first_mapped w f i (suc n) j low high none some = elim (cases_order i j) [
   | inl e ↦ inl (ap f e, subst (λ j. IsSome (happened (f j) w)) (sym e) some)
@@ -114,7 +115,7 @@ none_flat : (w : WorldView) (f : ℕ → List Event) (i n : ℕ) → ((k : ℕ) 
 none_flat w f i zero all = tt
 none_flat w f i (suc n) all = none_append w (f i) (flat_map f (range_with_len (i + 1) n)) (all i (omega arith) (omega arith)) (none_flat w f (i + 1) n (λ k low high. all k (omega arith) (omega arith)))
 
-flat_none : (w : WorldView) (f : ℕ → List Event) (i n k : ℕ) → NoneOf w (flat_map f (range_with_len i n)) → i ≤ k → k < i + n → NoneOf w (f k)
+pub flat_none : (w : WorldView) (f : ℕ → List Event) (i n k : ℕ) → NoneOf w (flat_map f (range_with_len i n)) → i ≤ k → k < i + n → NoneOf w (f k)
 flat_none w f i zero k none low high = absurd (omega arith)
 flat_none w f i (suc n) k none low high = elim (cases_order i k) [
   | inl e ↦ subst (λ j. NoneOf w (f j)) e (none_left w (f i) (flat_map f (range_with_len (i + 1) n)) none)
@@ -138,7 +139,7 @@ none_if : (w : WorldView) (there : Bool) (e : Event) → happened e w ≡ None �
 none_if w true e h = (h, tt)
 none_if w false e h = tt
 
-if_none : (w : WorldView) (there : Bool) (e : Event) → NoneOf w (event_if there e) → there ≡ true → happened e w ≡ None
+pub if_none : (w : WorldView) (there : Bool) (e : Event) → NoneOf w (event_if there e) → there ≡ true → happened e w ≡ None
 if_none w true e h is = h.0
 if_none w false e h is = cc is
 
@@ -153,7 +154,7 @@ more P i all here k h = elim (cases_order k i) [
   | inr less ↦ elim less [ inl down ↦ all k down | inr up ↦ absurd (omega arith) ]
 ]
 
-some_is : {A : Type 0} (o : Option A) → is_some o ≡ true → IsSome o
+pub some_is : {A : Type 0} (o : Option A) → is_some o ≡ true → IsSome o
 some_is None e = cc e
 some_is (Some x) e = search rules
 
@@ -163,7 +164,7 @@ is_here (Some x) e = refl
 
 -- ---- turns and deliveries, by thread
 
-named : (n : ShapeNumbers) (t : ThreadId) (i : ℕ) → t.0 ≡ thread_at n i → nth_thread n i ≡ t
+pub named : (n : ShapeNumbers) (t : ThreadId) (i : ℕ) → t.0 ≡ thread_at n i → nth_thread n i ≡ t
 named n t i e = ap (λ (a : ℕ). record { 0 = a }) (sym e)
 
 abbrev pub NoTurn : WorldView → ℕ → Type 0
@@ -265,158 +266,3 @@ first_take w not some = inr (none_is (happened event.HostPut w) not, inl (refl, 
 
 pub none_of_host : (w : WorldView) → is_some (happened event.HostPut w) ≡ false → is_some (happened event.HostTake w) ≡ false → NoneOf w of_host
 none_of_host w not none = (none_is (happened event.HostPut w) not, (none_is (happened event.HostTake w) none, tt))
-
--- ---- all six lists
-
--- turns and deliveries, these and departures, these and arrivals, and these and routings
-abbrev two_lists : ShapeNumbers → List Event
-two_lists n = turns n ++ deliveries n
-
-abbrev three_lists : ShapeNumbers → List Event
-three_lists n = two_lists n ++ departures n
-
-abbrev four_lists : ShapeNumbers → List Event
-four_lists n = three_lists n ++ arrivals n
-
-abbrev five_lists : ShapeNumbers → List Event
-five_lists n = four_lists n ++ routings n
-
-pub listed_turn : (w : WorldView) (e : Event) → First w (turns w.shape) e → First w (listed w.shape) e
-listed_turn w e f =
-    first_left w (five_lists w.shape) of_host e
-    (first_left w (four_lists w.shape) (routings w.shape) e
-    (first_left w (three_lists w.shape) (arrivals w.shape) e
-    (first_left w (two_lists w.shape) (departures w.shape) e
-    (first_left w (turns w.shape) (deliveries w.shape) e f))))
-
-pub listed_delivery : (w : WorldView) (e : Event) → NoneOf w (turns w.shape) → First w (deliveries w.shape) e → First w (listed w.shape) e
-listed_delivery w e turned f =
-    first_left w (five_lists w.shape) of_host e
-    (first_left w (four_lists w.shape) (routings w.shape) e
-    (first_left w (three_lists w.shape) (arrivals w.shape) e
-    (first_left w (two_lists w.shape) (departures w.shape) e
-    (first_right w (turns w.shape) (deliveries w.shape) e turned f))))
-
-pub listed_departure : (w : WorldView) (e : Event) → NoneOf w (turns w.shape) → NoneOf w (deliveries w.shape) → First w (departures w.shape) e → First w (listed w.shape) e
-listed_departure w e turned delivered f =
-    first_left w (five_lists w.shape) of_host e
-    (first_left w (four_lists w.shape) (routings w.shape) e
-    (first_left w (three_lists w.shape) (arrivals w.shape) e
-    (first_right w (two_lists w.shape) (departures w.shape) e
-    (none_append w (turns w.shape) (deliveries w.shape) turned delivered) f)))
-
-pub listed_arrival : (w : WorldView) (e : Event) → NoneOf w (turns w.shape) → NoneOf w (deliveries w.shape) → NoneOf w (departures w.shape) → First w (arrivals w.shape) e → First w (listed w.shape) e
-listed_arrival w e turned delivered departed f =
-    first_left w (five_lists w.shape) of_host e
-    (first_left w (four_lists w.shape) (routings w.shape) e
-    (first_right w (three_lists w.shape) (arrivals w.shape) e
-    (none_append w (two_lists w.shape) (departures w.shape) (none_append w (turns w.shape) (deliveries w.shape) turned delivered) departed) f))
-
--- none of the first four lists is enabled
-none_of_four : (w : WorldView) → NoneOf w (turns w.shape) → NoneOf w (deliveries w.shape) → NoneOf w (departures w.shape) → NoneOf w (arrivals w.shape) → NoneOf w (four_lists w.shape)
-none_of_four w turned delivered departed arrived =
-    none_append w (three_lists w.shape) (arrivals w.shape)
-    (none_append w (two_lists w.shape) (departures w.shape) (none_append w (turns w.shape) (deliveries w.shape) turned delivered) departed) arrived
-
-pub listed_routing : (w : WorldView) (e : Event) → NoneOf w (turns w.shape) → NoneOf w (deliveries w.shape) → NoneOf w (departures w.shape) → NoneOf w (arrivals w.shape) → First w (routings w.shape) e → First w (listed w.shape) e
-listed_routing w e turned delivered departed arrived f =
-    first_left w (five_lists w.shape) of_host e
-    (first_right w (four_lists w.shape) (routings w.shape) e (none_of_four w turned delivered departed arrived) f)
-
-listed_of_host : (w : WorldView) (e : Event) → NoneOf w (turns w.shape) → NoneOf w (deliveries w.shape) → NoneOf w (departures w.shape) → NoneOf w (arrivals w.shape) → NoneOf w (routings w.shape) → First w of_host e → First w (listed w.shape) e
-listed_of_host w e turned delivered departed arrived routed f =
-    first_right w (five_lists w.shape) of_host e
-    (none_append w (four_lists w.shape) (routings w.shape) (none_of_four w turned delivered departed arrived) routed) f
-
--- each thread of the machine stands in the list
-abbrev pub Each : ShapeNumbers → Type 0
-Each n = (a : ℕ) → IsTrue (has_thread n a) → (i : ℕ) × (i < thread_count n) × (thread_at n i ≡ a)
-
-turn_rests : (w : WorldView) (t : ThreadId) (m : ℕ) (b : Bool) → has_thread w.shape t.0 ≡ b → Each w.shape → NoneOf w (turns w.shape) → happened (event.Turn t m) w ≡ None
-turn_rests w t m true is each none =
-    let got = each t.0 is in
-    let same : nth_thread w.shape got.0 ≡ t = named w.shape t got.0 (sym got.2) in
-    no_turns w t m (subst (λ (t : ThreadId). happened (event.Turn t 1) w ≡ None) same (mapped_none w (λ i. event.Turn (nth_thread w.shape i) 1) 0 (thread_count w.shape) got.0 none (omega arith) (omega (arith, got.1))))
-turn_rests w t m false is each none = no_thread w (event.Turn t m) t is
-
-delivery_rests : (w : WorldView) (t : ThreadId) (b : Bool) → has_thread w.shape t.0 ≡ b → Each w.shape → NoneOf w (deliveries w.shape) → happened (event.Deliver t) w ≡ None
-delivery_rests w t true is each none =
-    let got = each t.0 is in
-    let same : nth_thread w.shape got.0 ≡ t = named w.shape t got.0 (sym got.2) in
-    subst (λ (t : ThreadId). happened (event.Deliver t) w ≡ None) same (mapped_none w (λ i. event.Deliver (nth_thread w.shape i)) 0 (thread_count w.shape) got.0 none (omega arith) (omega (arith, got.1)))
-delivery_rests w t false is each none = no_thread w (event.Deliver t) t is
-
--- two parts of a machine, or one of them past its last part
-within : (n p q : ℕ) → ((p < n) × (q < n)) ⊎ ((n ≤ p) ⊎ (n ≤ q))
-within n p q = elim (cases_order p n) [
-  | inl e ↦ inr (inl (omega arith))
-  | inr less ↦ elim less [
-    | inr up ↦ inr (inl (omega arith))
-    | inl low ↦ elim (cases_order q n) [
-      | inl e ↦ inr (inr (omega arith))
-      | inr less ↦ elim less [ inl high ↦ inl (low, high) | inr up ↦ inr (inr (omega arith)) ]
-    ]
-  ]
-]
-
-there_or : (w : WorldView) (e : Event) (there : Bool) (p q : ℕ) → (there ≡ true → happened_at e w (two_if there p q) ≡ None) → happened_at e w (two_if there p q) ≡ None
-there_or w e true p q h = h refl
-there_or w e false p q h = refl
-
-departure_rests : (w : WorldView) (p l : PartId) → length w.parts ≡ part_count w.shape → NoneOf w (departures w.shape) → happened (event.Depart p l) w ≡ None
-departure_rests w p l count none = elim (within (part_count w.shape) p.0 l.0) [
-  | inl both ↦ there_or w (event.Depart p l) (leads_from p.0 (kind_of w.shape l.0)) p.0 l.0 (if_none w (leads_from p.0 (kind_of w.shape l.0)) (event.Depart p l)
-      (flat_none w (λ k. event_if (leads_from p.0 (kind_of w.shape k)) (event.Depart p (part_id k))) 0 (part_count w.shape) l.0
-      (flat_none w (departures_from w.shape) 0 (part_count w.shape) p.0 none (omega arith) (omega (arith, both.0))) (omega arith) (omega (arith, both.1))))
-  | inr past ↦ elim past [
-    | inl low ↦ low_past (event.Depart p l) w (leads_from p.0 (kind_of w.shape l.0)) p.0 l.0 (omega (arith, low, count))
-    | inr high ↦ high_past (event.Depart p l) w (leads_from p.0 (kind_of w.shape l.0)) p.0 l.0 (omega (arith, high, count))
-  ]
-]
-
-arrival_rests : (w : WorldView) (l p : PartId) → length w.parts ≡ part_count w.shape → NoneOf w (arrivals w.shape) → happened (event.Arrive l p) w ≡ None
-arrival_rests w l p count none = elim (within (part_count w.shape) p.0 l.0) [
-  | inl both ↦ there_or w (event.Arrive l p) (leads_to p.0 (kind_of w.shape l.0)) p.0 l.0 (if_none w (leads_to p.0 (kind_of w.shape l.0)) (event.Arrive l p)
-      (flat_none w (λ k. event_if (leads_to k (kind_of w.shape l.0)) (event.Arrive l (part_id k))) 0 (part_count w.shape) p.0
-      (flat_none w (arrivals_from w.shape) 0 (part_count w.shape) l.0 none (omega arith) (omega (arith, both.1))) (omega arith) (omega (arith, both.0))))
-  | inr past ↦ elim past [
-    | inl low ↦ low_past (event.Arrive l p) w (leads_to p.0 (kind_of w.shape l.0)) p.0 l.0 (omega (arith, low, count))
-    | inr high ↦ high_past (event.Arrive l p) w (leads_to p.0 (kind_of w.shape l.0)) p.0 l.0 (omega (arith, high, count))
-  ]
-]
-
-one_or : (w : WorldView) (e : Event) (there : Bool) (p : ℕ) → (there ≡ true → happened_at e w (one_if there p) ≡ None) → happened_at e w (one_if there p) ≡ None
-one_or w e true p h = h refl
-one_or w e false p h = refl
-
-routing_rests : (w : WorldView) (p : PartId) → length w.parts ≡ part_count w.shape → NoneOf w (routings w.shape) → happened (event.Route p) w ≡ None
-routing_rests w p count none = elim (within (part_count w.shape) p.0 p.0) [
-  | inl both ↦ one_or w (event.Route p) (is_router (kind_of w.shape p.0)) p.0 (if_none w (is_router (kind_of w.shape p.0)) (event.Route p)
-      (flat_none w (λ k. event_if (is_router (kind_of w.shape k)) (event.Route (part_id k))) 0 (part_count w.shape) p.0 none (omega arith) (omega (arith, both.0))))
-  | inr past ↦ elim past [
-    | inl low ↦ part_past (event.Route p) w (is_router (kind_of w.shape p.0)) p.0 (omega (arith, low, count))
-    | inr high ↦ part_past (event.Route p) w (is_router (kind_of w.shape p.0)) p.0 (omega (arith, high, count))
-  ]
-]
-
--- where none of them is enabled, no event is
-pub rests : (w : WorldView) → length w.parts ≡ part_count w.shape → Each w.shape → NoneOf w (turns w.shape) → NoneOf w (deliveries w.shape) → NoneOf w (departures w.shape) → NoneOf w (arrivals w.shape) → NoneOf w (routings w.shape) → NoneOf w of_host → Rests w
-rests w count each turns deliveries departures arrivals routings hosts (event.Turn t n) = turn_rests w t n (has_thread w.shape t.0) refl each turns
-rests w count each turns deliveries departures arrivals routings hosts (event.Deliver t) = delivery_rests w t (has_thread w.shape t.0) refl each deliveries
-rests w count each turns deliveries departures arrivals routings hosts (event.Depart p l) = departure_rests w p l count departures
-rests w count each turns deliveries departures arrivals routings hosts (event.Arrive l p) = arrival_rests w l p count arrivals
-rests w count each turns deliveries departures arrivals routings hosts (event.Route p) = routing_rests w p count routings
-rests w count each turns deliveries departures arrivals routings hosts event.HostPut = hosts.0
-rests w count each turns deliveries departures arrivals routings hosts event.HostTake = hosts.1.0
-rests w count each turns deliveries departures arrivals routings hosts (event.Report p) = never (event.Report p) w refl
-rests w count each turns deliveries departures arrivals routings hosts event.Begin = never event.Begin w refl
-rests w count each turns deliveries departures arrivals routings hosts (event.Confirm p) = never (event.Confirm p) w refl
-rests w count each turns deliveries departures arrivals routings hosts event.Announce = never event.Announce w refl
-rests w count each turns deliveries departures arrivals routings hosts (event.Release p) = never (event.Release p) w refl
-rests w count each turns deliveries departures arrivals routings hosts (event.Go p) = never (event.Go p) w refl
-
--- what is left after the first five lists
-pub last_list : (w : WorldView) (r : Option Event) → length w.parts ≡ part_count w.shape → Each w.shape → NoneOf w (turns w.shape) → NoneOf w (deliveries w.shape) → NoneOf w (departures w.shape) → NoneOf w (arrivals w.shape) → NoneOf w (routings w.shape) →
-    MatchOption r (NoneOf w of_host) (First w of_host) → MatchOption r (Rests w) (First w (listed w.shape))
-last_list w None count each turned delivered departed arrived routed h = rests w count each turned delivered departed arrived routed h
-last_list w (Some e) count each turned delivered departed arrived routed h = listed_of_host w e turned delivered departed arrived routed h

@@ -1,4 +1,4 @@
--- Events that are never enabled: those whose parts are not there, and those for which parts have no row yet.
+-- Events that are never enabled: those whose parts are not there, and those in which a part gives nothing.
 use Rattle.std.proofs.Common.{◌≡◌, ◌∙◌, ℕ, ◌≤◌, ltb, Bool, true, false, cond, None, Some, refl, ap, sym, is_some, option_and_then, option_map, slice_get, length}
 use Rattle.std.specs.declared.option.Option.{Option}
 use Rattle.std.proofs.lemmas.Option.{slice_get_past}
@@ -11,20 +11,11 @@ use Rattle.tn_node.proofs.PortLaws.{empty_at, not_false}
 use Rattle.tn_node.specs.PortRows.{all_empty, at}
 use Rattle.tn_rows.proofs.Meeting.{no_crossing, none_is}
 use Rattle.tn_rows.specs.Events.{after, carried, crossing_of, given_to, happened, happened_at, meets_at, with_both, with_part}
-use Rattle.tn_rows.specs.PartView.{PartView, TileV, RouterV, LinkV, HostV, AbsentV}
+use Rattle.tn_rows.specs.PartView.{PartView, TileV, RouterV, LinkV, HostV, DetectorV, AbsentV}
 use Rattle.tn_rows.specs.Places.{detector_part, leads_from, leads_to, link_way, one_if, two_if}
 use Rattle.tn_rows.specs.WorldView.{WorldView}
 use Rattle.tn_stamp.specs.declared.entry.Crossing.TheVariants as crossing
 use Rattle.tn_world.specs.Plays.{offers}
-
--- an event that no part has a row for
-no_row : (e : Event) (w : WorldView) (o : Option PartView) (p : ℕ) → ((x : PartView) → after e crossing.None x ≡ None) → option_map (with_part w p) (option_and_then (after e crossing.None) o) ≡ None
-no_row e w None p none = refl
-no_row e w (Some x) p none = ap (λ o. option_map (with_part w p) o) (none x)
-
-no_one : (e : Event) (w : WorldView) (there : Bool) (p : ℕ) → ((x : PartView) → after e crossing.None x ≡ None) → happened_at e w (one_if there p) ≡ None
-no_one e w true p none = no_row e w (slice_get w.parts p) p none
-no_one e w false p none = refl
 
 -- an event in which nothing crosses
 met_none : (e : Event) (w : WorldView) (a b : Option PartView) (p q : ℕ) → ((x y : PartView) → a ≡ Some x → b ≡ Some y → crossing_of e x y ≡ None) → option_map (with_both w p q) (meets_at e a b) ≡ None
@@ -35,46 +26,6 @@ met_none e w (Some x) (Some y) p q none = ap (λ o. option_map (with_both w p q)
 pub no_two : (e : Event) (w : WorldView) (there : Bool) (p q : ℕ) → ((x y : PartView) → slice_get w.parts p ≡ Some x → slice_get w.parts q ≡ Some y → crossing_of e x y ≡ None) → happened_at e w (two_if there p q) ≡ None
 no_two e w true p q none = met_none e w (slice_get w.parts p) (slice_get w.parts q) p q none
 no_two e w false p q none = refl
-
-begin_row : (x : PartView) → after event.Begin crossing.None x ≡ None
-begin_row (TileV v) = refl
-begin_row (RouterV v) = refl
-begin_row (LinkV v) = refl
-begin_row (HostV s) = refl
-begin_row AbsentV = refl
-
-announce_row : (x : PartView) → after event.Announce crossing.None x ≡ None
-announce_row (TileV v) = refl
-announce_row (RouterV v) = refl
-announce_row (LinkV v) = refl
-announce_row (HostV s) = refl
-announce_row AbsentV = refl
-
--- whether parts have rows for an event
-abbrev pub has_rows : Event → Bool
-has_rows (event.Turn t n) = true
-has_rows (event.Deliver t) = true
-has_rows (event.Depart p l) = true
-has_rows (event.Arrive l p) = true
-has_rows (event.Route p) = true
-has_rows event.HostPut = true
-has_rows event.HostTake = true
-has_rows _ = false
-
-pub never : (e : Event) (w : WorldView) → has_rows e ≡ false → happened e w ≡ None
-never (event.Turn t n) w h = cc h
-never (event.Deliver t) w h = cc h
-never (event.Depart p l) w h = cc h
-never (event.Arrive l p) w h = cc h
-never (event.Route p) w h = cc h
-never event.HostPut w h = cc h
-never event.HostTake w h = cc h
-never (event.Report p) w h = no_two (event.Report p) w (ltb p.0 (visited w.shape)) p.0 (detector_part w.shape) (λ x y a b. refl)
-never event.Begin w h = no_one event.Begin w true (detector_part w.shape) begin_row
-never (event.Confirm p) w h = no_two (event.Confirm p) w (ltb p.0 (visited w.shape)) p.0 (detector_part w.shape) (λ x y a b. refl)
-never event.Announce w h = no_one event.Announce w true (detector_part w.shape) announce_row
-never (event.Release p) w h = no_two (event.Release p) w (ltb p.0 (visited w.shape)) p.0 (detector_part w.shape) (λ x y a b. refl)
-never (event.Go p) w h = no_two (event.Go p) w (ltb p.0 (visited w.shape)) p.0 (detector_part w.shape) (λ x y a b. refl)
 
 -- ---- parts past the last one
 
@@ -116,6 +67,7 @@ gives_none l (TileV v) e = unless_held v.now.node.held (at (link_way v.plan.shap
 gives_none l (RouterV v) e = unless_held v.now.node.held (at (link_way v.plan.shape l) v.now.node.out) (empty_at (link_way v.plan.shape l) v.now.node.out (not_false (all_empty v.now.node.out) e))
 gives_none l (LinkV v) e = refl
 gives_none l (HostV s) e = refl
+gives_none l (DetectorV v) e = refl
 gives_none l AbsentV e = refl
 
 same_part : (o : Option PartView) (x y : PartView) → o ≡ Some x → o ≡ Some y → x ≡ y

@@ -25,7 +25,7 @@ use Rattle.tn_rows.specs.Ends.{ended_on, final_of}
 use Rattle.tn_rows.specs.Events.{after, happened, happened_at, with_part, FitsKind, IsWorld}
 use Rattle.tn_rows.specs.Places.{One, at_part, is_router, one_if, part_of, places}
 use Rattle.tn_stamp.specs.declared.entry.Crossing.TheVariants as crossing
-use Rattle.tn_rows.specs.PartView.{PartView, TileV, RouterV, LinkV, HostV, AbsentV}
+use Rattle.tn_rows.specs.PartView.{PartView, TileV, RouterV, LinkV, HostV, DetectorV, AbsentV}
 use Rattle.tn_rows.specs.WorldView.{WorldView}
 use Rattle.tn_rows.proofs.Meeting.{some_mapped}
 use Rattle.tn_world.proofs.Keeping.{kind_stays, world_keeps}
@@ -122,6 +122,7 @@ only_routers n (kind.Link from onto) p (RouterV v) e f = absurd f
 only_routers n kind.Detector p (RouterV v) e f = absurd f
 only_routers n k p (LinkV v) e f = refl
 only_routers n k p (HostV s) e f = refl
+only_routers n k p (DetectorV v) e f = refl
 only_routers n k p AbsentV e f = refl
 
 routed_if : (w : WorldView) (e : Event) (there : Bool) (p : ℕ) (part : PartView) → slice_get w.parts p ≡ Some part → (there ≡ false → after e crossing.None part ≡ None) →

@@ -7,13 +7,14 @@ use Rattle.tn_base.specs.declared.part.Kind.{Kind}
 use Rattle.tn_base.specs.declared.part.Kind.TheVariants as kind
 use Rattle.tn_base.specs.declared.port.Port.{Port}
 use Rattle.tn_base.specs.declared.shape.ShapeNumbers.{ShapeNumbers}
-use Rattle.tn_base.specs.Parts.{JoinsVisited, kind_of, part_count, visited}
-use Rattle.tn_rows.proofs.HostLinks.{host_links_there, link_from_host, link_to_host}
+use Rattle.tn_base.specs.Parts.{JoinsVisited, kind_of, part_count, router_part, visited}
+use Rattle.tn_rows.proofs.HostLinks.{detector_last, host_links_there, link_from_host, link_to_host}
 use Rattle.tn_rows.specs.Events.{FitsKind, IsWorld}
-use Rattle.tn_rows.specs.PartView.{PartView, TileV, RouterV, LinkV, HostV, AbsentV}
-use Rattle.tn_rows.specs.Places.{leads_from, leads_to, link_side, link_way}
+use Rattle.tn_rows.specs.PartView.{PartView, TileV, RouterV, LinkV, HostV, DetectorV, AbsentV}
+use Rattle.tn_rows.specs.Places.{detector_part, leads_from, leads_to, link_side, link_way}
 use Rattle.tn_rows.specs.WorldView.{WorldView}
 use Rattle.tn_world.specs.Joint.{IsHost, IsLink, IsSide, IsWay, NoLink}
+use Rattle.tn_world.specs.Visits.{Visits}
 
 -- a part is a link between these
 pub record Joins (k : Kind) (from onto : ℕ) : Type 0 where
@@ -49,6 +50,7 @@ fits_link n k from onto (TileV v) e f = subst (λ k. FitsKind n k (TileV v)) e f
 fits_link n k from onto (RouterV v) e f = subst (λ k. FitsKind n k (RouterV v)) e f
 fits_link n k from onto (LinkV v) e f = tt
 fits_link n k from onto (HostV s) e f = subst (λ k. FitsKind n k (HostV s)) e f
+fits_link n k from onto (DetectorV v) e f = subst (λ k. FitsKind n k (DetectorV v)) e f
 fits_link n k from onto AbsentV e f = subst (λ k. FitsKind n k AbsentV) e f
 
 -- a part that is no link is none
@@ -61,6 +63,7 @@ fits_other n (kind.Router board) (LinkV v) not f = f
 fits_other n (kind.Link from onto) (LinkV v) not f = absurd (not from onto refl)
 fits_other n kind.Detector (LinkV v) not f = f
 fits_other n k (HostV s) not f = tt
+fits_other n k (DetectorV v) not f = tt
 fits_other n k AbsentV not f = tt
 
 fits_way : (n : ShapeNumbers) (k : Kind) (part : PartView) (l : ℕ) (way : Port) → way ≡ link_way n l → FitsKind n k part → IsWay part l way
@@ -76,6 +79,7 @@ fits_way n (kind.Link from onto) (RouterV v) l way e f = absurd f
 fits_way n kind.Detector (RouterV v) l way e f = absurd f
 fits_way n k (LinkV v) l way e f = tt
 fits_way n k (HostV s) l way e f = tt
+fits_way n k (DetectorV v) l way e f = tt
 fits_way n k AbsentV l way e f = tt
 
 fits_side : (n : ShapeNumbers) (k : Kind) (part : PartView) (l : ℕ) (side : Port) → side ≡ link_side n l → FitsKind n k part → IsSide part l side
@@ -87,6 +91,7 @@ fits_side n (kind.Link from onto) (RouterV v) l side e f = absurd f
 fits_side n kind.Detector (RouterV v) l side e f = absurd f
 fits_side n k (LinkV v) l side e f = tt
 fits_side n k (HostV s) l side e f = tt
+fits_side n k (DetectorV v) l side e f = tt
 fits_side n k AbsentV l side e f = tt
 
 -- a part and a link behind it
@@ -166,6 +171,7 @@ fits_host n (TileV v) f = f
 fits_host n (RouterV v) f = f
 fits_host n (LinkV v) f = f
 fits_host n (HostV s) f = f
+fits_host n (DetectorV v) f = f
 fits_host n AbsentV f = f
 
 -- the host, and a link of its that stands so far before the end of the parts
@@ -193,3 +199,41 @@ from_host_pair w i = let many = host_links_there w.shape in host_pair w (part_co
 
 pub to_host_pair : (w : WorldView) → IsWorld w → HostPair w (part_count w.shape - 3)
 to_host_pair w i = let many = host_links_there w.shape in host_pair w (part_count w.shape - 3) _ _ (omega (arith, many)) (omega (arith, many)) (link_to_host w.shape) i
+
+-- ---- the detector and the parts that it visits
+
+fits_visits : (n : ShapeNumbers) (p : ℕ) (part : PartView) → p < visited n → FitsKind n kind.Detector part → Visits p part
+fits_visits n p (TileV v) h f = f
+fits_visits n p (RouterV v) h f = f
+fits_visits n p (LinkV v) h f = f
+fits_visits n p (HostV s) h f = f
+fits_visits n p (DetectorV v) h f = subst (λ m. p < m) (sym f.0) h
+fits_visits n p AbsentV h f = f
+
+-- the detector is there
+pub detector_there : (w : WorldView) → IsWorld w → detector_part w.shape < length w.parts
+detector_there w i =
+    let many = host_links_there w.shape in
+    let count : length w.parts ≡ part_count w.shape = i.count in
+    omega (arith, many, count)
+
+-- a part that the detector visits, and the detector at place d behind it
+pub record VisitPair (w : WorldView) (p d : ℕ) : Type 0 where
+  pub less : p < d
+  pub low : p < length w.parts
+  pub high : d < length w.parts
+  pub visits : Visits p (get_or w.parts d AbsentV)
+
+pub visit_pair : (w : WorldView) (p : ℕ) → p < visited w.shape → Behind w.shape → IsWorld w → VisitPair w p (detector_part w.shape)
+visit_pair w p h behind i =
+    let joins : JoinsVisited w.shape (part_count w.shape - 2) 0 (router_part w.shape 0) = behind (part_count w.shape - 2) _ _ (link_from_host w.shape) in
+    let past : visited w.shape ≤ part_count w.shape - 2 = joins.behind in
+    let many = host_links_there w.shape in
+    let count : length w.parts ≡ part_count w.shape = i.count in
+    let there : detector_part w.shape < part_count w.shape = omega (arith, many) in
+    record {
+      less = omega (arith, h, past, many);
+      low = omega (arith, h, past, many, count);
+      high = detector_there w i;
+      visits = fits_visits w.shape p (get_or w.parts (detector_part w.shape) AbsentV) h (subst (λ k. FitsKind w.shape k (get_or w.parts (detector_part w.shape) AbsentV)) (detector_last w.shape) (i.each (detector_part w.shape) there));
+    }

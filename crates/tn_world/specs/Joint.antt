@@ -4,7 +4,7 @@ use Rattle.std.specs.declared.alloc.AllocError.{AllocError}
 use Rattle.std.specs.declared.result.Result.{Result}
 use Rattle.tn_base.specs.declared.port.Port.{Port}
 use Rattle.tn_rows.specs.Events.{Met}
-use Rattle.tn_rows.specs.PartView.{PartView, TileV, RouterV, LinkV, HostV, AbsentV}
+use Rattle.tn_rows.specs.PartView.{PartView, TileV, RouterV, LinkV, HostV, DetectorV, AbsentV}
 use Rattle.tn_rows.specs.Places.{link_side, link_way}
 use Rattle.tn_tile.specs.declared.deliver.Did.{Did}
 use Rattle.tn_tile.specs.Turns.{moved}
@@ -25,6 +25,7 @@ IsWay (TileV v) l way = way ≡ link_way v.plan.shape l
 IsWay (RouterV v) l way = way ≡ link_way v.plan.shape l
 IsWay (LinkV v) l way = Unit {0}
 IsWay (HostV s) l way = Unit {0}
+IsWay (DetectorV v) l way = Unit {0}
 IsWay AbsentV l way = Unit {0}
 
 -- link l leads to a router from this side; all sides of a tile are alike
@@ -33,6 +34,7 @@ IsSide (TileV v) l side = Unit {0}
 IsSide (RouterV v) l side = side ≡ link_side v.plan.shape l
 IsSide (LinkV v) l side = Unit {0}
 IsSide (HostV s) l side = Unit {0}
+IsSide (DetectorV v) l side = Unit {0}
 IsSide AbsentV l side = Unit {0}
 
 -- a part is a link, and a part is none
@@ -41,6 +43,7 @@ IsLink (TileV v) = ⊥
 IsLink (RouterV v) = ⊥
 IsLink (LinkV v) = Unit {0}
 IsLink (HostV s) = ⊥
+IsLink (DetectorV v) = ⊥
 IsLink AbsentV = ⊥
 
 abbrev pub NoLink : PartView → Type 0
@@ -48,6 +51,7 @@ NoLink (TileV v) = Unit {0}
 NoLink (RouterV v) = Unit {0}
 NoLink (LinkV v) = ⊥
 NoLink (HostV s) = Unit {0}
+NoLink (DetectorV v) = Unit {0}
 NoLink AbsentV = Unit {0}
 
 -- a part is the host
@@ -56,6 +60,7 @@ IsHost (TileV v) = ⊥
 IsHost (RouterV v) = ⊥
 IsHost (LinkV v) = ⊥
 IsHost (HostV s) = Unit {0}
+IsHost (DetectorV v) = ⊥
 IsHost AbsentV = ⊥
 
 -- the parts with both of an event in their places

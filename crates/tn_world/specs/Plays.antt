@@ -7,7 +7,7 @@ use Rattle.tn_base.specs.declared.event.Event.TheVariants as event
 use Rattle.tn_base.specs.declared.ids.ThreadId.{ThreadId}
 use Rattle.tn_rows.specs.Ends.{final_after, final_of, last_of}
 use Rattle.tn_rows.specs.Events.{after, happened, Rests}
-use Rattle.tn_rows.specs.PartView.{PartView, TileV, RouterV, LinkV, HostV, AbsentV}
+use Rattle.tn_rows.specs.PartView.{PartView, TileV, RouterV, LinkV, HostV, DetectorV, AbsentV}
 use Rattle.tn_rows.specs.Runs.{IsLongest, LongTurns, Run}
 use Rattle.tn_rows.specs.WorldView.{WorldView}
 use Rattle.tn_node.specs.PortRows.{all_empty}
@@ -37,6 +37,7 @@ offers (TileV v) = not (all_empty v.now.node.out)
 offers (RouterV v) = not (all_empty v.now.node.out)
 offers (LinkV v) = false
 offers (HostV s) = false
+offers (DetectorV v) = false
 offers AbsentV = false
 
 -- the machine makes an event; a turn is the longest one

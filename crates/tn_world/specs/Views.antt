@@ -1,5 +1,5 @@
 use Rattle.tn_link.specs.LinkView.{LinkView}
-use Rattle.tn_rows.specs.PartView.{PartView, TileV, RouterV, LinkV, HostV, AbsentV}
+use Rattle.tn_rows.specs.PartView.{PartView, TileV, RouterV, LinkV, HostV, DetectorV, AbsentV}
 use Rattle.tn_world.specs.declared.part.Contents.{Contents}
 use Rattle.tn_world.specs.declared.part.Contents.TheVariants as contents
 
@@ -9,4 +9,4 @@ view_of content (contents.Tile tile) = TileV tile
 view_of content (contents.Router router) = RouterV router
 view_of content (contents.Link link) = LinkV (content link)
 view_of content (contents.Host host) = HostV host.now
-view_of content contents.Absent = AbsentV
+view_of content (contents.Detector detector) = DetectorV detector

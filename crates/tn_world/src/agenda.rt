@@ -1,8 +1,11 @@
 //! What a run tries next.
 //!
 //! An agenda is advice. It visits only parts that may have something to do, and of a tile only the threads that can make a step
-//! or have a pending packet. It may miss an event: before a run ends, every event is tested, so a miss costs time and loses no
-//! event.
+//! or have a pending packet. It may miss an event: unless a run ends with a final event, every event is tested before the run ends.
+//! A miss costs time, and no event is lost.
+//!
+//! The detector's events come only if nothing is left to do on any part. Then each part reports that did something since its last
+//! report, and the detector begins to confirm. If it announces, it releases all parts and lets them go on.
 
 ghost use Rattle.std.specs.Prelude.{◌<◌};
 ghost use Rattle.tn_base.specs.Address.{tile_threads};
@@ -16,6 +19,7 @@ use tn_base::ids::{PartId, ThreadId};
 use tn_base::part::Kind;
 use tn_base::port::Port;
 use tn_base::shape::Shape;
+use tn_detect::phase::Phase;
 use tn_host::host::Host;
 use tn_link::link::Link;
 use tn_router::router::Router;
@@ -63,6 +67,54 @@ enum Stage {
     Departures,
 }
 
+/// A set of visited parts.
+#[derive(Clone, Copy)]
+struct Marks {
+    words: [u64; WORDS],
+}
+
+impl Marks {
+    /// No part is marked.
+    const NONE: Marks = Marks { words: [0; WORDS] };
+
+    fn mark(&mut self, p: usize) {
+        if p / 64 < WORDS {
+            self.words[p / 64] |= 1u64 << (p % 64);
+        }
+    }
+
+    fn unmark(&mut self, p: usize) {
+        if p / 64 < WORDS {
+            self.words[p / 64] &= !(1u64 << (p % 64));
+        }
+    }
+
+    /// The first marked part behind this one, round the list.
+    fn next_behind(&self, at: u32) -> Option<u32> {
+        let first = at.wrapping_add(1);
+        let word = first / 64 % WORDS as u32;
+        let behind = self.words[word as usize] & (u64::MAX << (first % 64));
+        if behind != 0 {
+            return Some(word * 64 + behind.trailing_zeros());
+        }
+        for k in 1..=WORDS as u32 {
+            let word = (word + k) % WORDS as u32;
+            let marks = self.words[word as usize];
+            if marks != 0 {
+                return Some(word * 64 + marks.trailing_zeros());
+            }
+        }
+        None
+    }
+
+    /// Takes the first marked part out of the set.
+    fn take_first(&mut self) -> Option<u32> {
+        let first = self.next_behind(u32::MAX)?;
+        self.unmark(first as usize);
+        Some(first)
+    }
+}
+
 /// Where a run is among the events of all parts.
 #[derive(Drop)]
 pub(crate) struct Agenda {
@@ -72,7 +124,12 @@ pub(crate) struct Agenda {
     ends: Vec<Ends>,
     first_link: u32,
     /// The parts on which something may happen.
-    marks: [u64; WORDS],
+    marks: Marks,
+    /// The parts that did something since their last report.
+    changed: Marks,
+    /// Whether the detector's events are tried, and whether Begin was tried since the last report.
+    resting: bool,
+    tried_begin: bool,
     /// The part in hand, the kind of its next event and the event's number in its kind, and whether an event of the part happened
     /// since the run came to it.
     at: u32,
@@ -91,7 +148,10 @@ impl Agenda {
             stops,
             ends,
             first_link,
-            marks: [0; WORDS],
+            marks: Marks::NONE,
+            changed: Marks::NONE,
+            resting: false,
+            tried_begin: false,
             at: 0,
             stage: Stage::Arrivals,
             next: 0,
@@ -103,45 +163,119 @@ impl Agenda {
 
     /// The next event to try; None if nothing is left to try.
     pub(crate) fn next<L: Link>(&mut self, world: &World<L>) -> Option<Event> {
+        if self.resting {
+            if let Some(event) = self.event_of_detector(world) {
+                return Some(event);
+            }
+            self.resting = false;
+            self.at = self.marks.next_behind(self.at)?;
+        }
         for _ in 0..=self.stops.len() {
             if let Some(event) = self.event(world) {
                 return Some(event);
             }
-            if !self.moved {
-                self.unmark(self.at as usize);
+            self.leave();
+            match self.marks.next_behind(self.at) {
+                Some(p) => self.at = p,
+                None => return self.rest(world),
             }
-            self.moved = false;
-            self.at = self.next_marked()?;
         }
         None
     }
 
+    /// The run leaves the part in hand. If no event of the part happened, nothing may happen there.
+    fn leave(&mut self) {
+        if self.moved {
+            self.changed.mark(self.at as usize);
+        } else {
+            self.marks.unmark(self.at as usize);
+        }
+        self.moved = false;
+    }
+
+    /// Nothing is left to do on any part: the detector's events are next.
+    fn rest<L: Link>(&mut self, world: &World<L>) -> Option<Event> {
+        self.resting = true;
+        self.tried_begin = false;
+        self.event_of_detector(world)
+    }
+
+    /// The next event of the detector; None if it waits for a part.
+    fn event_of_detector<L: Link>(&mut self, world: &World<L>) -> Option<Event> {
+        let Contents::Detector(detector) = &world.parts.last()?.contents else {
+            return None;
+        };
+        match detector.phase() {
+            Phase::Collect => self.report(),
+            Phase::Confirm(i) if i < detector.visited() => Some(Event::Confirm(PartId(i))),
+            Phase::Confirm(_) => Some(Event::Announce),
+            Phase::Release(i) => Some(Event::Release(PartId(i))),
+            Phase::Go(i) => Some(Event::Go(PartId(i))),
+        }
+    }
+
+    /// The next report, and Begin behind all reports. No part reports as long as something may happen on a part.
+    fn report(&mut self) -> Option<Event> {
+        if self.marks.next_behind(self.at).is_some() {
+            return None;
+        }
+        if let Some(p) = self.changed.take_first() {
+            return Some(Event::Report(PartId(p)));
+        }
+        if self.tried_begin {
+            return None;
+        }
+        self.tried_begin = true;
+        Some(Event::Begin)
+    }
+
     /// An event that was tried happened: more may happen here, and at the other end of its link.
     pub(crate) fn happened(&mut self, e: &Event) {
+        if self.resting {
+            self.detector_did(e);
+            return;
+        }
         self.moved = true;
         match *e {
             Event::Depart(_, l) => {
                 if let Some(ends) = self.ends_at(l) {
-                    self.mark(ends.to.0 as usize);
+                    self.marks.mark(ends.to.0 as usize);
                     self.load(ends);
                 }
             }
             Event::Arrive(l, _) => {
                 if let Some(ends) = self.ends_at(l) {
-                    self.mark(ends.from.0 as usize);
+                    self.marks.mark(ends.from.0 as usize);
                 }
             }
             // The last link leads from the host to the router to which the host's other link belongs too.
             Event::HostPut => {
                 if let Some(ends) = self.ends.last().copied() {
-                    self.mark(ends.to.0 as usize);
+                    self.marks.mark(ends.to.0 as usize);
                     self.load(ends);
                 }
             }
             Event::HostTake => {
                 if let Some(ends) = self.ends.last().copied() {
-                    self.mark(ends.to.0 as usize);
+                    self.marks.mark(ends.to.0 as usize);
                 }
+            }
+            _ => {}
+        }
+    }
+
+    /// An event of the detector happened. If a part is not confirmed, that part alone has no report any more. A part that is
+    /// released may do something again.
+    fn detector_did(&mut self, e: &Event) {
+        match *e {
+            Event::Report(_) => self.tried_begin = false,
+            Event::Confirm(p) => {
+                self.changed = Marks::NONE;
+                self.changed.mark(p.0 as usize);
+            }
+            Event::Release(p) => {
+                self.marks.mark(p.0 as usize);
+                self.changed.mark(p.0 as usize);
             }
             _ => {}
         }
@@ -149,8 +283,10 @@ impl Agenda {
 
     /// Something may happen on every part.
     pub(crate) fn mark_all(&mut self) {
+        self.resting = false;
         for p in 0..self.stops.len() {
-            self.mark(p);
+            self.marks.mark(p);
+            self.changed.mark(p);
             if let Some(stop) = self.stops.get_mut(p) {
                 stop.loaded = u32::MAX;
             }
@@ -171,7 +307,7 @@ impl Agenda {
             Contents::Tile(tile) => self.event_of_tile(world, tile),
             Contents::Router(router) => self.event_of_router(world, router),
             Contents::Host(host) => self.event_of_host(world, host),
-            Contents::Link(_) | Contents::Absent => None,
+            Contents::Link(_) | Contents::Detector(_) => None,
         };
         if found.is_none() {
             self.go_to(Stage::Arrivals);
@@ -291,36 +427,6 @@ impl Agenda {
         self.ends
             .get(l.0.wrapping_sub(self.first_link) as usize)
             .copied()
-    }
-
-    fn mark(&mut self, p: usize) {
-        if p / 64 < WORDS {
-            self.marks[p / 64] |= 1u64 << (p % 64);
-        }
-    }
-
-    fn unmark(&mut self, p: usize) {
-        if p / 64 < WORDS {
-            self.marks[p / 64] &= !(1u64 << (p % 64));
-        }
-    }
-
-    /// The first marked part behind the part in hand, round the list.
-    fn next_marked(&self) -> Option<u32> {
-        let first = self.at.wrapping_add(1);
-        let word = first / 64 % WORDS as u32;
-        let behind = self.marks[word as usize] & (u64::MAX << (first % 64));
-        if behind != 0 {
-            return Some(word * 64 + behind.trailing_zeros());
-        }
-        for k in 1..=WORDS as u32 {
-            let word = (word + k) % WORDS as u32;
-            let marks = self.marks[word as usize];
-            if marks != 0 {
-                return Some(word * 64 + marks.trailing_zeros());
-            }
-        }
-        None
     }
 }
 

@@ -1,17 +1,18 @@
 //! Events on a machine.
 
 ghost use Rattle.std.specs.Prelude.{◌≡◌, ◌<◌, ◌≤◌, ◌&&◌, MatchOption, MatchResult, is_some, option_and_then, option_copied, option_map, slice_get};
-ghost use Rattle.std.specs.List.{list_all};
 ghost use Rattle.tn_base.specs.declared.event.Event.TheVariants as event;
 ghost use Rattle.tn_base.specs.Does.{Does};
 ghost use Rattle.tn_base.specs.Parts.{part_count};
-ghost use Rattle.tn_rows.specs.Ends.{bad_key_on, ended_on, final_of, is_over, rest_outcome};
+ghost use Rattle.tn_rows.specs.Ends.{bad_key_on, ended_on, final_of};
 ghost use Rattle.tn_rows.specs.Events.{Rests, happened};
-ghost use Rattle.tn_rows.specs.Listed.{arrivals, arrivals_from, deliveries, departures, departures_from, listed, of_host, routings, turns};
+ghost use Rattle.tn_rows.specs.Listed.{arrivals, arrivals_from, by_part, deliveries, departures, departures_from, listed, of_detector, of_host, routings, turns};
 ghost use Rattle.tn_rows.specs.Places.{part_of};
 ghost use Rattle.tn_tile.specs.Turns.{StockLasts, moved};
 ghost use Rattle.tn_world.specs.Plays.{First, NoneOf, Turns, did_turn};
+ghost use Rattle.tn_world.specs.Visits.{visit_event};
 
+use crate::detector::Visit;
 use crate::part::{LastTurn, Part};
 use crate::world::World;
 use std::alloc::AllocError;
@@ -35,12 +36,17 @@ pub fn step<L: Link>(world: &mut World<L>, e: &Event) -> Result<Did, AllocError>
         Event::Route(p) => Ok(world.route(p)),
         Event::HostPut => Ok(world.host_put()),
         Event::HostTake => world.host_take(),
-        _ => Ok(Did::Nothing),
+        Event::Report(p) => Ok(world.visit(Visit::Report, p)),
+        Event::Begin => Ok(world.begin()),
+        Event::Confirm(p) => Ok(world.visit(Visit::Confirm, p)),
+        Event::Announce => Ok(world.announce()),
+        Event::Release(p) => Ok(world.visit(Visit::Release, p)),
+        Event::Go(p) => Ok(world.visit(Visit::Go, p)),
     }
 }
 
 /// The first event in their order that is enabled: turns by thread, then deliveries by thread, departures by part
-/// and link, arrivals by link, routings by router, and the host's events.
+/// and link, arrivals by link, routings by router, the host's events, and the detector's events.
 pub fn enabled<L: Link>(world: &World<L>) -> Option<Event>
     ensures { MatchOption result (Rests world.now) (First world.now (listed world.now.shape)) }
 {
@@ -60,7 +66,10 @@ pub fn enabled<L: Link>(world: &World<L>) -> Option<Event>
     if let Some(e) = first_routing(world) {
         return Some(e);
     }
-    first_of_host(world)
+    if let Some(e) = first_of_host(world) {
+        return Some(e);
+    }
+    first_of_detector(world)
 }
 
 /// The first thread that can make a step.
@@ -138,35 +147,52 @@ fn first_of_host<L: Link>(world: &World<L>) -> Option<Event>
     None
 }
 
+/// The first event of the detector that can happen: reports by part, Begin, confirmations by part, Announce, releases by part, and
+/// parts that go on.
+fn first_of_detector<L: Link>(world: &World<L>) -> Option<Event>
+    ensures { MatchOption result (NoneOf world.now (of_detector world.now.shape)) (First world.now (of_detector world.now.shape)) }
+{
+    if let Some(e) = first_visit(world, Visit::Report) {
+        return Some(e);
+    }
+    if world.can_begin() {
+        return Some(Event::Begin);
+    }
+    if let Some(e) = first_visit(world, Visit::Confirm) {
+        return Some(e);
+    }
+    if world.can_announce() {
+        return Some(Event::Announce);
+    }
+    if let Some(e) = first_visit(world, Visit::Release) {
+        return Some(e);
+    }
+    first_visit(world, Visit::Go)
+}
+
+/// The first visit of a kind that can happen.
+fn first_visit<L: Link>(world: &World<L>, visit: Visit) -> Option<Event>
+    ensures { MatchOption result (NoneOf world.now (by_part (visit_event visit) world.now.shape)) (First world.now (by_part (visit_event visit) world.now.shape)) }
+{
+    for p in 0..world.shape.visited() {
+        if world.can_visit(visit, PartId(p)) {
+            return Some(visit.event(PartId(p)));
+        }
+    }
+    None
+}
+
 /// How a run ends with this event, after which the machine is this one, where the event is final: a thread
-/// trapped, or has used its fuel, or a router found a bad key.
+/// trapped, or has used its fuel, or a router found a bad key, or the detector announced that every thread has ended.
 pub fn final_of<L: Link>(world: &World<L>, e: &Event) -> Option<Outcome>
     ensures { result ≡ final_of e.now world.now }
 {
     match *e {
         Event::Turn(t, _) => world.ended_by(t),
         Event::Route(p) => world.bad_key_at(p),
+        Event::Announce => world.done(),
         _ => None,
     }
-}
-
-/// How a run ends in which nothing more can happen: done where all threads ended, no message stands anywhere and the host's
-/// script is at its end, else jammed.
-pub fn rest_outcome<L: Link>(world: &World<L>) -> Outcome
-    ensures { result ≡ rest_outcome world.now }
-{
-    if are_over(&world.parts) {
-        Outcome::Done
-    } else {
-        Outcome::Jammed
-    }
-}
-
-/// Whether all threads of all parts ended, no message stands anywhere, and the host's script is at its end.
-fn are_over<L: Link>(parts: &[Part<L>]) -> bool
-    ensures { result ≡ list_all is_over parts.now }
-{
-    parts.iter().all(|part| part.is_over())
 }
 
 impl<L: Link> World<L> {

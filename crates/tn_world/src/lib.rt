@@ -4,6 +4,7 @@
 #![tactic(auto)]
 
 mod agenda;
+mod detector;
 pub mod events;
 mod host;
 mod links;

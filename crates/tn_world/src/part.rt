@@ -3,14 +3,14 @@
 ghost use Rattle.std.specs.Prelude.{◌≡◌, ◌↔◌, ◌≤◌, ◌&&◌, IfOk, IsTrue, MatchResult, is_some, not, option_copied, option_map};
 ghost use Rattle.tn_base.specs.declared.event.Event.TheVariants as event;
 ghost use Rattle.tn_base.specs.Does.{Does};
-ghost use Rattle.tn_rows.specs.Ends.{bad_key_on, ended_on, is_over};
+ghost use Rattle.tn_rows.specs.Ends.{bad_key_on, done_on, done_with, ended_on};
 ghost use Rattle.tn_rows.specs.Events.{after, carried};
-ghost use Rattle.tn_rows.specs.PartView.{AbsentV, HostV, LinkV, RouterV, TileV, host_of, link_of, router_of, tile_of};
+ghost use Rattle.tn_rows.specs.PartView.{DetectorV, HostV, LinkV, RouterV, TileV, detector_of, host_of, link_of, router_of, tile_of};
 ghost use Rattle.tn_node.specs.PortRows.{all_empty};
 ghost use Rattle.tn_router.specs.RouterView.{now_by as router_now_by};
 ghost use Rattle.tn_router.specs.Rows.{route_row};
 ghost use Rattle.tn_stamp.specs.declared.entry.Crossing.TheVariants as crossing;
-ghost use Rattle.tn_tile.specs.Rows.{is_here, turn_row};
+ghost use Rattle.tn_tile.specs.Rows.{deliver_row, is_here, turn_row};
 ghost use Rattle.tn_tile.specs.TileView.{now_by};
 ghost use Rattle.tn_tile.specs.Turns.{StockLasts, TurnIs, moved};
 ghost use Rattle.tn_world.specs.Plays.{TurnsPart, did_turn, offers};
@@ -20,6 +20,8 @@ use std::marker::Model;
 use tn_base::event::Outcome;
 use tn_base::ids::{PartId, ThreadId};
 use tn_base::port::Port;
+use tn_detect::answer::Answer;
+use tn_detect::detector::Detector;
 use tn_host::host::Host;
 use tn_link::link::Link;
 use tn_pages::stock::PageStock;
@@ -37,7 +39,7 @@ pub(crate) enum Contents<L> {
     Router(Router),
     Link(L),
     Host(Host),
-    Absent,
+    Detector(Detector),
 }
 
 /// What came of a turn, and whether it ends a run.
@@ -55,8 +57,7 @@ impl LastTurn {
     };
 }
 
-/// A part of a machine: a tile, a router, a link, the host, or the detector, which is not built yet. No event touches an absent
-/// part.
+/// A part of a machine: a tile, a router, a link, the host, or the detector.
 #[derive(Drop)]
 pub struct Part<L: Link> {
     pub(crate) contents: Contents<L>,
@@ -109,12 +110,12 @@ impl<L: Link> Part<L> {
         }
     }
 
-    /// A part that is not built yet.
-    pub fn absent() -> Part<L>
-        ensures { result ≡ AbsentV }
+    /// The detector.
+    pub fn detector(detector: Detector) -> Part<L>
+        ensures { result ≡ DetectorV detector }
     {
         Part {
-            contents: Contents::Absent,
+            contents: Contents::Detector(detector),
         }
     }
 
@@ -127,7 +128,7 @@ impl<L: Link> Part<L> {
             Contents::Router(router) => Ok(Part::router(router.copy()?)),
             Contents::Link(link) => Ok(Part::link(link.copy()?)),
             Contents::Host(host) => Ok(Part::host(host.copy()?)),
-            Contents::Absent => Ok(Part::absent()),
+            Contents::Detector(detector) => Ok(Part::detector(detector.copy()?)),
         }
     }
 
@@ -140,7 +141,7 @@ impl<L: Link> Part<L> {
             (Contents::Router(a), Contents::Router(b)) => a.same(b),
             (Contents::Link(a), Contents::Link(b)) => a.same(b),
             (Contents::Host(a), Contents::Host(b)) => a.same(b),
-            (Contents::Absent, Contents::Absent) => true,
+            (Contents::Detector(a), Contents::Detector(b)) => a.same(b),
             _ => false,
         }
     }
@@ -151,7 +152,8 @@ impl<L: Link> Part<L> {
     {
         match &self.contents {
             Contents::Tile(tile) => Some(tile),
-            Contents::Router(_) | Contents::Link(_) | Contents::Host(_) | Contents::Absent => None,
+            Contents::Router(_) | Contents::Link(_) | Contents::Host(_) | Contents::Detector(_) =>
+                None,
         }
     }
 
@@ -161,7 +163,8 @@ impl<L: Link> Part<L> {
     {
         match &self.contents {
             Contents::Router(router) => Some(router),
-            Contents::Tile(_) | Contents::Link(_) | Contents::Host(_) | Contents::Absent => None,
+            Contents::Tile(_) | Contents::Link(_) | Contents::Host(_) | Contents::Detector(_) =>
+                None,
         }
     }
 
@@ -171,7 +174,8 @@ impl<L: Link> Part<L> {
     {
         match &self.contents {
             Contents::Link(link) => Some(link),
-            Contents::Tile(_) | Contents::Router(_) | Contents::Host(_) | Contents::Absent => None,
+            Contents::Tile(_) | Contents::Router(_) | Contents::Host(_) | Contents::Detector(_) =>
+                None,
         }
     }
 
@@ -181,7 +185,18 @@ impl<L: Link> Part<L> {
     {
         match &self.contents {
             Contents::Host(host) => Some(host),
-            Contents::Tile(_) | Contents::Router(_) | Contents::Link(_) | Contents::Absent => None,
+            Contents::Tile(_) | Contents::Router(_) | Contents::Link(_) | Contents::Detector(_) =>
+                None,
+        }
+    }
+
+    /// The detector that the part is.
+    pub fn as_detector(&self) -> Option<&Detector>
+        ensures { option_copied result ≡ detector_of self.now }
+    {
+        match &self.contents {
+            Contents::Detector(detector) => Some(detector),
+            Contents::Tile(_) | Contents::Router(_) | Contents::Link(_) | Contents::Host(_) => None,
         }
     }
 
@@ -204,9 +219,8 @@ impl<L: Link> Part<L> {
     {
         match &mut self.contents {
             Contents::Tile(tile) => turn_tile(tile, t, n),
-            Contents::Router(_) | Contents::Link(_) | Contents::Host(_) | Contents::Absent => Ok(
-                Did::Nothing,
-            ),
+            Contents::Router(_) | Contents::Link(_) | Contents::Host(_) | Contents::Detector(_) =>
+                Ok(Did::Nothing),
         }
     }
 
@@ -214,10 +228,10 @@ impl<L: Link> Part<L> {
     pub(crate) fn deliver(&mut self, t: ThreadId) -> Did
         ensures { Does (moved result) (after (event.Deliver t) crossing.None self.old) self.old self.new }
     {
-        match &mut self.contents {
-            Contents::Tile(tile) if tile.is_here(t) => tile.deliver(t),
-            _ => Did::Nothing,
-        }
+        let Contents::Tile(tile) = &mut self.contents else {
+            return Did::Nothing;
+        };
+        deliver_tile(tile, t)
     }
 
     /// Whether a thread can make a step.
@@ -226,7 +240,8 @@ impl<L: Link> Part<L> {
     {
         match &self.contents {
             Contents::Tile(tile) => tile.is_here(t) && tile.can_turn(t),
-            Contents::Router(_) | Contents::Link(_) | Contents::Host(_) | Contents::Absent => false,
+            Contents::Router(_) | Contents::Link(_) | Contents::Host(_) | Contents::Detector(_) =>
+                false,
         }
     }
 
@@ -236,7 +251,8 @@ impl<L: Link> Part<L> {
     {
         match &self.contents {
             Contents::Tile(tile) => tile.is_here(t) && tile.can_deliver(t),
-            Contents::Router(_) | Contents::Link(_) | Contents::Host(_) | Contents::Absent => false,
+            Contents::Router(_) | Contents::Link(_) | Contents::Host(_) | Contents::Detector(_) =>
+                false,
         }
     }
 
@@ -267,7 +283,7 @@ impl<L: Link> Part<L> {
         match &self.contents {
             Contents::Tile(tile) => offers_any(tile),
             Contents::Router(router) => sends_any(router),
-            Contents::Link(_) | Contents::Host(_) | Contents::Absent => false,
+            Contents::Link(_) | Contents::Host(_) | Contents::Detector(_) => false,
         }
     }
 
@@ -277,7 +293,8 @@ impl<L: Link> Part<L> {
     {
         match &self.contents {
             Contents::Link(link) => link.front().is_some(),
-            Contents::Tile(_) | Contents::Router(_) | Contents::Host(_) | Contents::Absent => false,
+            Contents::Tile(_) | Contents::Router(_) | Contents::Host(_) | Contents::Detector(_) =>
+                false,
         }
     }
 
@@ -287,7 +304,8 @@ impl<L: Link> Part<L> {
     {
         match &self.contents {
             Contents::Tile(tile) => end_on(tile, t),
-            Contents::Router(_) | Contents::Link(_) | Contents::Host(_) | Contents::Absent => None,
+            Contents::Router(_) | Contents::Link(_) | Contents::Host(_) | Contents::Detector(_) =>
+                None,
         }
     }
 
@@ -297,21 +315,30 @@ impl<L: Link> Part<L> {
     {
         match &self.contents {
             Contents::Router(router) => router.ended().map(Outcome::BadKey),
-            Contents::Tile(_) | Contents::Link(_) | Contents::Host(_) | Contents::Absent => None,
+            Contents::Tile(_) | Contents::Link(_) | Contents::Host(_) | Contents::Detector(_) =>
+                None,
         }
     }
 
-    /// Whether all threads of the part ended, and no message stands there; of the host, whether its script is at its end.
-    pub(crate) fn is_over(&self) -> bool
-        ensures { result ≡ is_over self.now }
+    /// How a run ends with an announcement after which the part is this one: every thread has ended, and the host's script is at
+    /// its end.
+    pub(crate) fn done(&self) -> Option<Outcome>
+        ensures { result ≡ done_on self.now }
     {
         match &self.contents {
-            Contents::Tile(tile) => tile.still() && !tile.live(),
-            Contents::Router(router) => router.still(),
-            Contents::Link(link) => link.len() == 0,
-            Contents::Host(host) => host.at_end(),
-            Contents::Absent => true,
+            Contents::Detector(detector) => done_with(detector.answer()),
+            Contents::Tile(_) | Contents::Router(_) | Contents::Link(_) | Contents::Host(_) => None,
         }
+    }
+}
+
+/// How a run ends with an announcement of this answer.
+fn done_with(answer: Option<Answer>) -> Option<Outcome>
+    ensures { result ≡ done_with answer }
+{
+    match answer {
+        Some(Answer::AllDead) => Some(Outcome::Done),
+        Some(Answer::Live(_)) | None => None,
     }
 }
 
@@ -339,6 +366,16 @@ fn sends_any(router: &Router) -> bool
         && router.buffer(Port::Up).is_none()
         && router.buffer(Port::Down).is_none()
         && router.buffer(Port::HostPort).is_none())
+}
+
+/// Delivers the packet of a thread of a tile, if the packet can be delivered.
+fn deliver_tile(tile: &mut Tile, t: ThreadId) -> Did
+    ensures { Does (moved result) (now_by tile.old (deliver_row tile.old.plan t.0 tile.old.now)) tile.old tile.new }
+{
+    if !tile.is_here(t) {
+        return Did::Nothing;
+    }
+    tile.deliver(t)
 }
 
 /// A Route, where the router can make one. The bad key that it finds stays noted there.

@@ -7,6 +7,7 @@ ghost use Rattle.tn_rows.specs.Events.{Rests, happened};
 ghost use Rattle.tn_world.specs.Plays.{MakesOr, Played, Reached, Told};
 
 use crate::agenda::Agenda;
+use crate::detector::Visit;
 use crate::events::{enabled, final_of};
 use crate::world::World;
 use std::alloc::AllocError;
@@ -152,7 +153,16 @@ fn make_without<L: Link>(world: &mut World<L>, e: &Event) -> Option<Made>
             told(did, *e, final_of(world, e).is_some())
         }
         Event::HostPut => went_on(world.host_put(), *e),
-        _ => None,
+        Event::Report(p) => went_on(world.visit(Visit::Report, p), *e),
+        Event::Begin => went_on(world.begin(), *e),
+        Event::Confirm(p) => went_on(world.visit(Visit::Confirm, p), *e),
+        Event::Announce => {
+            let did = world.announce();
+            told(did, *e, final_of(world, e).is_some())
+        }
+        Event::Release(p) => went_on(world.visit(Visit::Release, p), *e),
+        Event::Go(p) => went_on(world.visit(Visit::Go, p), *e),
+        Event::Turn(_, _) | Event::HostTake => None,
     }
 }
 

@@ -1,7 +1,7 @@
 use Rattle.std.proofs.Common.{◌≡◌, length, subst}
 use Rattle.tn_base.specs.Parts.{part_count}
 use Rattle.tn_rows.specs.WorldView.{WorldView}
-use Rattle.tn_world.proofs.Listed.{Each, last_list, listed_arrival, listed_delivery, listed_departure, listed_routing, listed_turn}
+use Rattle.tn_world.proofs.Rests.{Each, last_list, listed_arrival, listed_delivery, listed_departure, listed_of_host, listed_routing, listed_turn}
 use Rattle.tn_world.proofs.events.enabled.Goals as goal
 
 pub returns-in-Some : goal.returns-in-Some
@@ -19,8 +19,18 @@ returns-in-Some-first_arrival g c = listed_arrival c.args.world.now c.in-Some-fi
 pub returns-in-Some-first_routing : goal.returns-in-Some-first_routing
 returns-in-Some-first_routing g c = listed_routing c.args.world.now c.in-Some-first_routing.e c.in_default.ensures c.in_default-first_delivery.ensures c.in_default-first_departure.ensures c.in_default-first_arrival.ensures c.in-Some-first_routing.ensures
 
+pub returns-in-Some-first_of_host : goal.returns-in-Some-first_of_host
+returns-in-Some-first_of_host g c = listed_of_host c.args.world.now c.in-Some-first_of_host.e c.in_default.ensures c.in_default-first_delivery.ensures c.in_default-first_departure.ensures c.in_default-first_arrival.ensures c.in_default-first_routing.ensures c.in-Some-first_of_host.ensures
+
 pub returns : goal.returns
 returns g c =
     let count = subst (λ (w : WorldView). length w.parts ≡ part_count w.shape) c.world.view_is c.world.invariant.world.count in
     let each = subst (λ (w : WorldView). Each w.shape) c.world.view_is c.law_threads.ensures.each in
-    last_list c.args.world.now c.first_of_host.result count each c.in_default.ensures c.in_default-first_delivery.ensures c.in_default-first_departure.ensures c.in_default-first_arrival.ensures c.in_default-first_routing.ensures c.first_of_host.ensures
+    last_list c.args.world.now c.first_of_detector.result count each (record {
+      turns = c.in_default.ensures;
+      deliveries = c.in_default-first_delivery.ensures;
+      departures = c.in_default-first_departure.ensures;
+      arrivals = c.in_default-first_arrival.ensures;
+      routings = c.in_default-first_routing.ensures;
+      hosts = c.in_default-first_of_host.ensures;
+    }) c.first_of_detector.ensures
