@@ -1,5 +1,5 @@
 -- The first event of a list that is enabled, and machines in which none is.
-use Rattle.std.proofs.Common.{◌≡◌, ℕ, zero, suc, ◌+◌, ◌<◌, ◌≤◌, ◌++◌, [], ◌∷◌, Bool, true, false, cond, IsTrue, IsSome, List, map, None, Some, refl, sym, subst, ap, arith, inl, inr, ◌⊎◌, is_some, length, rules, option_and_then, option_map, MatchOption}
+use Rattle.std.proofs.Common.{◌≡◌, ℕ, zero, suc, ◌+◌, ◌<◌, ◌≤◌, ◌++◌, [], ◌∷◌, Bool, true, false, cond, IsSome, List, map, None, Some, refl, sym, subst, ap, arith, inl, inr, is_some, rules, option_and_then, option_map}
 use Rattle.std.specs.declared.option.Option.{Option}
 use Rattle.std.specs.List.{flat_map, range_with_len, slice_get}
 use Rattle.std.proofs.lemmas.Bool.{cases_order}
@@ -12,16 +12,16 @@ use Rattle.tn_base.specs.Address.{has_thread, thread_at, tile_of, tile_place}
 use Rattle.tn_base.specs.Parts.{kind_of, part_count, tile_part}
 use Rattle.tn_base.specs.Shape.{thread_count}
 use Rattle.tn_rows.proofs.Meeting.{none_is}
-use Rattle.tn_rows.specs.Events.{after, happened, happened_at, with_part, Rests}
-use Rattle.tn_rows.specs.Listed.{arrivals, arrivals_from, deliveries, departures, departures_from, event_if, listed, nth_thread, of_host, part_id, routings, turns}
+use Rattle.tn_rows.specs.Events.{after, happened, happened_at, with_part}
+use Rattle.tn_rows.specs.Listed.{arrivals, arrivals_from, deliveries, departures, departures_from, event_if, nth_thread, of_host, part_id, routings, turns}
 use Rattle.tn_rows.specs.PartView.{PartView, TileV, RouterV, LinkV, HostV, DetectorV, AbsentV}
-use Rattle.tn_rows.specs.Places.{at_part, is_router, leads_from, leads_to, one_if, part_of, two_if}
+use Rattle.tn_rows.specs.Places.{at_part, is_router, leads_from, leads_to, part_of}
 use Rattle.tn_rows.specs.WorldView.{WorldView}
 use Rattle.tn_stamp.specs.declared.entry.Crossing.TheVariants as crossing
 use Rattle.tn_tile.specs.Rows.{turn_row}
 use Rattle.tn_tile.specs.declared.state.TileState.{TileState}
 use Rattle.tn_tile.specs.TileView.{TileView, now_by}
-use Rattle.tn_world.proofs.Others.{high_past, joined, low_past, part_past, stands}
+use Rattle.tn_world.proofs.Others.{joined, stands}
 use Rattle.tn_world.proofs.Steps.{row_one}
 use Rattle.tn_world.specs.Plays.{First, NoneOf}
 

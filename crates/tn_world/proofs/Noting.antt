@@ -1,5 +1,5 @@
 -- A detector keeps a place for the report of each part.
-use Rattle.std.proofs.Common.{◌≡◌, ◌∙◌, ◌&&◌, ℕ, Bool, true, false, cond, None, Some, refl, ap, sym, length, not, unwrap_or, nat_lt, replicate, set, ◌==◌}
+use Rattle.std.proofs.Common.{◌≡◌, ◌∙◌, ◌&&◌, ℕ, Bool, true, false, cond, None, Some, refl, ap, sym, length, not, unwrap_or, nat_lt, set, ◌==◌}
 use Rattle.std.specs.declared.option.Option.{Option}
 use Rattle.std.proofs.lemmas.List.{length-replicate, length-set}
 use Rattle.tn_detect.specs.declared.facts.PartView.{PartView as Shown}

@@ -1,18 +1,18 @@
 -- Events that are never enabled: those whose parts are not there, and those in which a part gives nothing.
-use Rattle.std.proofs.Common.{◌≡◌, ◌∙◌, ℕ, ◌≤◌, ltb, Bool, true, false, cond, None, Some, refl, ap, sym, is_some, option_and_then, option_map, slice_get, length}
+use Rattle.std.proofs.Common.{◌≡◌, ◌∙◌, ℕ, ◌≤◌, Bool, true, false, cond, None, Some, refl, ap, sym, is_some, option_and_then, option_map, slice_get, length}
 use Rattle.std.specs.declared.option.Option.{Option}
 use Rattle.std.proofs.lemmas.Option.{slice_get_past}
 use Rattle.tn_base.specs.declared.event.Event.{Event}
 use Rattle.tn_base.specs.declared.event.Event.TheVariants as event
 use Rattle.tn_base.specs.declared.ids.PartId.{PartId}
 use Rattle.tn_base.specs.declared.message.Packet.{Packet}
-use Rattle.tn_base.specs.Parts.{kind_of, visited}
+use Rattle.tn_base.specs.Parts.{kind_of}
 use Rattle.tn_node.proofs.PortLaws.{empty_at, not_false}
 use Rattle.tn_node.specs.PortRows.{all_empty, at}
 use Rattle.tn_rows.proofs.Meeting.{no_crossing, none_is}
 use Rattle.tn_rows.specs.Events.{after, carried, crossing_of, given_to, happened, happened_at, meets_at, with_both, with_part}
 use Rattle.tn_rows.specs.PartView.{PartView, TileV, RouterV, LinkV, HostV, DetectorV, AbsentV}
-use Rattle.tn_rows.specs.Places.{detector_part, leads_from, leads_to, link_way, one_if, two_if}
+use Rattle.tn_rows.specs.Places.{leads_from, leads_to, link_way, one_if, two_if}
 use Rattle.tn_rows.specs.WorldView.{WorldView}
 use Rattle.tn_stamp.specs.declared.entry.Crossing.TheVariants as crossing
 use Rattle.tn_world.specs.Plays.{offers}

@@ -1,5 +1,5 @@
 -- All events of a machine, list by list, and machines in which none is enabled.
-use Rattle.std.proofs.Common.{◌≡◌, ◌∙◌, ℕ, ◌<◌, ◌≤◌, ◌++◌, [], ◌∷◌, Bool, true, false, cond, IsTrue, List, None, Some, refl, sym, subst, ap, arith, inl, inr, ◌⊎◌, is_some, length, ltb, option_map, MatchOption}
+use Rattle.std.proofs.Common.{◌≡◌, ◌∙◌, ℕ, ◌<◌, ◌≤◌, ◌++◌, [], ◌∷◌, Bool, true, false, IsTrue, List, None, Some, refl, sym, subst, arith, inl, inr, ◌⊎◌, is_some, length, ltb, MatchOption}
 use Rattle.std.specs.declared.option.Option.{Option}
 use Rattle.std.proofs.lemmas.Bool.{cases_order, ltb-true}
 use Rattle.tn_base.specs.declared.event.Event.{Event}

@@ -6,30 +6,27 @@ use Rattle.tn_base.specs.declared.event.Event.{Event}
 use Rattle.tn_base.specs.declared.event.Event.TheVariants as event
 use Rattle.tn_base.specs.declared.ids.PartId.{PartId}
 use Rattle.tn_base.specs.Parts.{visited}
-use Rattle.tn_detect.specs.declared.facts.PartView.{PartView as Shown}
 use Rattle.tn_detect.specs.declared.state.DetectorState.{DetectorState}
 use Rattle.tn_detect.specs.DetectorView.{DetectorView, now_by as detector_now_by}
 use Rattle.tn_detect.specs.Notes.{value_of}
 use Rattle.tn_detect.specs.Reports.{report_at}
 use Rattle.tn_detect.specs.Rows.{confirm_row, go_row, is_collect, release_row, report_row}
-use Rattle.tn_host.specs.HostView.{HostState}
 use Rattle.tn_host.specs.Rows.{gone_on as host_gone_on, host_facts, host_whitened, released as host_released}
 use Rattle.tn_node.specs.declared.facts.PartFacts.{PartFacts}
-use Rattle.tn_node.specs.Facts.{agree, if_still}
+use Rattle.tn_node.specs.Facts.{if_still}
 use Rattle.tn_node.proofs.Agreed.{agrees, own_given}
-use Rattle.tn_router.specs.RouterView.{RouterView, now_by as router_now_by}
+use Rattle.tn_router.specs.RouterView.{now_by as router_now_by}
 use Rattle.tn_router.specs.Rows.{gone_on as router_gone_on, released as router_released, router_facts, router_whitened}
-use Rattle.tn_rows.proofs.Meeting.{mapped, no_crossing, none_is, some_mapped}
-use Rattle.tn_rows.specs.DetectorDeed.{answers, confirms, lets_go, releases, view_of}
+use Rattle.tn_rows.proofs.Meeting.{mapped, no_crossing, none_is}
+use Rattle.tn_rows.specs.DetectorDeed.{confirms, lets_go, releases, view_of}
 use Rattle.tn_rows.specs.Events.{Met, after, happened, happened_at, meets, met_by, met_with, told_by}
 use Rattle.tn_rows.specs.PartView.{PartView, TileV, RouterV, LinkV, HostV, DetectorV, AbsentV}
 use Rattle.tn_rows.specs.Places.{detector_part, two_if}
 use Rattle.tn_rows.specs.WorldView.{WorldView}
 use Rattle.tn_stamp.specs.declared.entry.Crossing.TheVariants as crossing
-use Rattle.tn_tile.proofs.Steps.{taken}
 use Rattle.tn_tile.specs.Rows.{gone_on as tile_gone_on, released as tile_released, tile_facts, tile_whitened}
-use Rattle.tn_tile.specs.TileView.{TileView, now_by}
-use Rattle.tn_world.proofs.Crossings.{did_both, did_nothing}
+use Rattle.tn_tile.specs.TileView.{now_by}
+use Rattle.tn_world.proofs.Crossings.{did_both}
 use Rattle.tn_world.specs.declared.detector.Visit.{Visit}
 use Rattle.tn_world.specs.declared.detector.Visit.TheVariants as visit
 use Rattle.tn_world.specs.Joint.{DoesBoth}

@@ -1,5 +1,5 @@
 use Rattle.tn_link.specs.LinkView.{LinkView}
-use Rattle.tn_rows.specs.PartView.{PartView, TileV, RouterV, LinkV, HostV, DetectorV, AbsentV}
+use Rattle.tn_rows.specs.PartView.{PartView, TileV, RouterV, LinkV, HostV, DetectorV}
 use Rattle.tn_world.specs.declared.part.Contents.{Contents}
 use Rattle.tn_world.specs.declared.part.Contents.TheVariants as contents
 

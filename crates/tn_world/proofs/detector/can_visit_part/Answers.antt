@@ -1,7 +1,6 @@
-use Rattle.std.proofs.Common.{◌≡◌, ◌∙◌, ap, false, is_some, subst, sym}
+use Rattle.std.proofs.Common.{◌≡◌, ◌∙◌, ap, is_some, subst, sym}
 use Rattle.tn_detect.specs.declared.facts.PartView.{PartView as Shown}
 use Rattle.tn_detect.specs.DetectorView.{DetectorView}
-use Rattle.tn_rows.specs.DetectorDeed.{view_of}
 use Rattle.tn_rows.specs.Events.{Met}
 use Rattle.std.specs.declared.option.Option.{Option}
 use Rattle.tn_world.specs.Visits.{visit_row}
