@@ -2,7 +2,6 @@
 
 use tn_base::event::Event;
 use tn_base::message::Packet;
-
 pub use tn_node::facts::PartFacts;
 
 /// What passes between the two parts of an event, the same on both.

@@ -96,7 +96,7 @@ sent_to_fits (Some to) seen t can =
     (λ e. record {
       keeps = record { id = refl; shape = refl; firmware = refl; mem = refl; out = refl };
       steps = refl;
-  pages = omega arith;
+      pages = omega arith;
       op = (can, e, omega (arith, length-take (16 * (t.out.last + 1)) t.out.bytes));
     })
     (λ e. trapped_fits seen t trap.BadDest)
@@ -111,7 +111,7 @@ freed_fits addr seen t =
     (λ e. record {
       keeps = record { id = refl; shape = refl; firmware = refl; mem = refl; out = refl };
       steps = refl;
-  pages = omega arith;
+      pages = omega arith;
       op = (and_parts (is_received addr t && nat_eq ((addr - 0x40000000) % slot_size t) 0) (is_some (seen.held (slot_at addr t))) e).1;
     })
     (λ e. trapped_fits seen t trap.BadFree)

@@ -65,12 +65,7 @@ impl Thread {
 
     /// The same step, which hands on what the thread asks without the message of a send: `message` reads the message.
     #[inline(always)]
-    pub fn apply_asking<V: View>(
-        &mut self,
-        effect: Effect,
-        view: &V,
-        stock: &mut PageStock,
-    ) -> Ask
+    pub fn apply_asking<V: View>(&mut self, effect: Effect, view: &V, stock: &mut PageStock) -> Ask
         requires running { self.old.state ≡ ThreadState.Run }
         requires fuel { self.old.steps < self.old.shape.fuel }
         requires fits { FitsStep effect }

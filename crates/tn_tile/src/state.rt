@@ -74,13 +74,7 @@ impl TileState {
     /// Makes as many of `most` steps of the thread at a place as it can, and says how many. A step takes at most one page. The
     /// turn is a function of its own also in the built program: its loop then has the registers of the processor for itself.
     #[inline(never)]
-    pub(crate) fn turn(
-        &mut self,
-        plan: &Plan,
-        place: u32,
-        stock: &mut PageStock,
-        most: u32,
-    ) -> u32
+    pub(crate) fn turn(&mut self, plan: &Plan, place: u32, stock: &mut PageStock, most: u32) -> u32
         requires there { place < tile_threads plan.now.shape }
         requires fits { IsFit plan.now self.old }
         requires few { most ≤ 64 }
@@ -99,13 +93,7 @@ impl TileState {
 
     /// Makes at least one step of the thread at a place, at most this many, and says how many.
     #[inline(always)]
-    fn advance(
-        &mut self,
-        plan: &Plan,
-        place: u32,
-        stock: &mut PageStock,
-        most: u32,
-    ) -> u32
+    fn advance(&mut self, plan: &Plan, place: u32, stock: &mut PageStock, most: u32) -> u32
         requires there { place < tile_threads plan.now.shape }
         requires fits { IsFit plan.now self.old }
         requires can { IsTrue (can_step plan.now.shape.fuel place self.old) }
