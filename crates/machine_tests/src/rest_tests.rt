@@ -211,8 +211,7 @@ static CASES: [Case; 13] = [
         part: 1,
         acts: &[(Act::Pages(FIRST, 1), ENDED)],
     },
-    // A thread that is idle with its vote against the end reads 1 once it is released, and makes no step before the tile
-    // goes on.
+    // A thread that is idle with its vote against the end reads 1 once it is released. Its tile is held until it goes on.
     Case {
         job: AGAINST,
         events: &[Event::Turn(FIRST, 1)],
