@@ -5,7 +5,7 @@ use std::sync::Wait;
 use std::test::Fail;
 use std::thread::Threads;
 use tn_base::event::Event;
-use tn_base::ids::ThreadId;
+use tn_base::ids::{PartId, ThreadId};
 use tn_call::status::Status;
 use tn_io::gate::OpenGate;
 use tn_io::memory::{MemSink, MemSource};
@@ -18,7 +18,19 @@ const TWO: &[u8] = b"tinsel 1\nshape 1 1 1 1 1 2\ncode all\nf1402573\n80b51073\n
 /// A thread that spins, with 100 steps to make.
 const SPINS: &[u8] = b"tinsel 1\nshape 1 1 1 1 1 1\nfuel 100\ncode all\n0000006f\nend\n";
 
-const TWO_RUN: &[Event] = &[Event::Turn(ThreadId(0), 2), Event::Turn(ThreadId(1), 2)];
+/// The detector visits the host, the tile and the router, and announces that every thread has ended.
+const TWO_RUN: &[Event] = &[
+    Event::Turn(ThreadId(0), 2),
+    Event::Turn(ThreadId(1), 2),
+    Event::Report(PartId(0)),
+    Event::Report(PartId(1)),
+    Event::Report(PartId(2)),
+    Event::Begin,
+    Event::Confirm(PartId(0)),
+    Event::Confirm(PartId(1)),
+    Event::Confirm(PartId(2)),
+    Event::Announce,
+];
 
 const SPINS_RUN: &[Event] = &[
     Event::Turn(ThreadId(0), 16),
@@ -239,7 +251,8 @@ static CASES: [Case; 31] = [
     // The events of the run are written before the report. The sink fails among them.
     Case {
         words: &["run", "--trace", "--workers=64"],
-        written: b"turn 0 2\nturn 1 2\nexit 0 0\nexit 1 1\ndone\n",
+        written: b"turn 0 2\nturn 1 2\nreport 0\nreport 1\nreport 2\nbegin\nconfirm 0\nconfirm 1\n\
+            confirm 2\nannounce\nexit 0 0\nexit 1 1\ndone\n",
         ..RUN
     },
     Case {

@@ -1,7 +1,7 @@
 //! Letters in their places, and the steps of the bag machine that runs spell. The lists are worked out by hand from
 //! the programs.
 
-use crate::jobs::{ACROSS, EAST, ECHO, KEYED, LEFT, MEET, THRICE};
+use crate::jobs::{ACROSS, AGAINST, EAST, ECHO, KEYED, LEFT, MEET, THRICE};
 use crate::machines::{after, machine, replay};
 use std::alloc::{AllocError, Global};
 use std::test::Fail;
@@ -407,6 +407,10 @@ enum Steps {
     Hand(u32, Seen, Note),
     /// It gives up the letter in a slot.
     Free(u32, Seen, u16),
+    /// It becomes idle with its vote for the end.
+    Idle(u32, Seen, bool),
+    /// The machine's rest is announced.
+    Announce,
     /// A letter to it is dropped.
     Discard(Note),
 }
@@ -429,6 +433,8 @@ fn push_steps(all: &mut Vec<BagStep>, steps: &Steps) -> Result<(), Fail> {
             })?
         }
         Steps::Free(thread, seen, slot) => all.push(BagStep::Free { thread, seen, slot })?,
+        Steps::Idle(thread, seen, vote) => all.push(BagStep::Idle { thread, seen, vote })?,
+        Steps::Announce => all.push(BagStep::Announce)?,
         Steps::Discard(note) => {
             let letter = letter(&note)?;
             all.push(BagStep::Discard { letter })?
@@ -488,7 +494,7 @@ const CAME_0304: Seen = Seen {
 type Spelled = (&'static [u8], &'static [Event], &'static [Steps]);
 
 /// The router is no part of the bag machine: the letters of `KEYED` are in flight from the send on.
-static SPELLED: [Spelled; 4] = [
+static SPELLED: [Spelled; 5] = [
     (
         ECHO,
         &[Event::Turn(ThreadId(0), 16)],
@@ -535,6 +541,33 @@ static SPELLED: [Spelled; 4] = [
             Steps::Send(0, NOTHING),
             Steps::Private(1, 8, CAME_0304),
             Steps::Hand(1, CAME_0304, URM),
+        ],
+    ),
+    // Of the detector's events the announcement alone is a step.
+    (
+        AGAINST,
+        &[
+            Event::Turn(ThreadId(0), 1),
+            Event::Report(PartId(0)),
+            Event::Report(PartId(1)),
+            Event::Report(PartId(2)),
+            Event::Begin,
+            Event::Confirm(PartId(0)),
+            Event::Confirm(PartId(1)),
+            Event::Confirm(PartId(2)),
+            Event::Announce,
+            Event::Release(PartId(0)),
+            Event::Release(PartId(1)),
+            Event::Release(PartId(2)),
+            Event::Go(PartId(0)),
+            Event::Go(PartId(1)),
+            Event::Go(PartId(2)),
+            Event::Turn(ThreadId(0), 2),
+        ],
+        &[
+            Steps::Idle(0, NOTHING, false),
+            Steps::Announce,
+            Steps::Private(0, 2, NOTHING),
         ],
     ),
 ];

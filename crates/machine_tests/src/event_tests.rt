@@ -1,7 +1,7 @@
 //! Single events on machines, how they end runs, and runs of longest turns. What each event makes is worked out by hand from
 //! docs/MACHINE.md. On one tile the tile is part 1, the router part 2, and the links up and down are parts 3 and 4.
 
-use crate::jobs::{EAST, KEYED, MEET, SPINS, TRAPS, TWO};
+use crate::jobs::{AGAINST, EAST, KEYED, MEET, SPINS, TRAPS, TWO, WAITS};
 use crate::machines::machine;
 use std::alloc::{AllocError, Global};
 use std::test::Fail;
@@ -9,19 +9,18 @@ use tn_base::event::{Event, Outcome, Trap};
 use tn_base::ids::{PartId, ThreadId};
 use tn_link::plain::PlainLink;
 use tn_tile::deliver::Did;
-use tn_world::events::{enabled, final_of, rest_outcome, step};
+use tn_world::events::{enabled, final_of, step};
 use tn_world::play::play;
 use tn_world::world::World;
 
 /// An event, whether it happens, and the first event that is enabled afterwards.
 type Step = (Event, Did, Option<Event>);
 
-/// Events on a machine in turn, how some events end a run behind them, and how a rest there does.
+/// Events on a machine in turn, and how some events end a run behind them.
 struct Scenario {
     job: &'static [u8],
     steps: &'static [Step],
     ends: &'static [(Event, Option<Outcome>)],
-    rest: Outcome,
 }
 
 /// The first step of these that is another, if there is one.
@@ -72,8 +71,8 @@ const DEPARTS: Event = Event::Depart(PartId(1), EASTWARD);
 const ARRIVES: Event = Event::Arrive(EASTWARD, PartId(2));
 
 /// What is no event of the machine of `TWO`: a thread can make two steps, so not three and not none; others than its
-/// threads can make none; nothing was sent; and what is not built is never enabled.
-const NO_EVENTS: [Step; 9] = [
+/// threads can make none; nothing was sent; the tile is not still; and the detector waits for reports.
+const NO_EVENTS: [Step; 10] = [
     (
         Event::Turn(FIRST, 3),
         Did::Nothing,
@@ -104,6 +103,11 @@ const NO_EVENTS: [Step; 9] = [
         Did::Nothing,
         Some(Event::Turn(FIRST, 1)),
     ),
+    (
+        Event::Report(PartId(1)),
+        Did::Nothing,
+        Some(Event::Turn(FIRST, 1)),
+    ),
     (Event::Begin, Did::Nothing, Some(Event::Turn(FIRST, 1))),
     (Event::Announce, Did::Nothing, Some(Event::Turn(FIRST, 1))),
     (
@@ -113,8 +117,17 @@ const NO_EVENTS: [Step; 9] = [
     ),
 ];
 
-/// Both threads end, the second one step by step.
-const BOTH_END: [Step; 4] = [
+/// The host reports first, and the detector visits it first.
+const HOST_REPORTS: Event = Event::Report(PartId(0));
+
+const TILE_REPORTS: Event = Event::Report(PartId(1));
+
+const CONFIRMS_TILE: Event = Event::Confirm(PartId(1));
+
+const RELEASES_HOST: Event = Event::Release(PartId(0));
+
+/// Both threads end, the second one step by step. The detector begins behind all reports, confirms in order, and announces.
+const BOTH_END: [Step; 21] = [
     (
         Event::Turn(FIRST, 2),
         Did::Moved,
@@ -130,7 +143,134 @@ const BOTH_END: [Step; 4] = [
         Did::Moved,
         Some(Event::Turn(SECOND, 1)),
     ),
-    (Event::Turn(SECOND, 1), Did::Moved, None),
+    (Event::Turn(SECOND, 1), Did::Moved, Some(HOST_REPORTS)),
+    (Event::Report(PartId(2)), Did::Moved, Some(HOST_REPORTS)),
+    (HOST_REPORTS, Did::Moved, Some(TILE_REPORTS)),
+    // A part that reported, a link, the detector itself, and a part that is not there.
+    (HOST_REPORTS, Did::Nothing, Some(TILE_REPORTS)),
+    (
+        Event::Report(PartId(3)),
+        Did::Nothing,
+        Some(TILE_REPORTS),
+    ),
+    (
+        Event::Report(PartId(7)),
+        Did::Nothing,
+        Some(TILE_REPORTS),
+    ),
+    (
+        Event::Report(PartId(8)),
+        Did::Nothing,
+        Some(TILE_REPORTS),
+    ),
+    // One report is missing.
+    (Event::Begin, Did::Nothing, Some(TILE_REPORTS)),
+    (TILE_REPORTS, Did::Moved, Some(Event::Begin)),
+    (Event::Announce, Did::Nothing, Some(Event::Begin)),
+    (
+        Event::Begin,
+        Did::Moved,
+        Some(Event::Confirm(PartId(0))),
+    ),
+    (
+        CONFIRMS_TILE,
+        Did::Nothing,
+        Some(Event::Confirm(PartId(0))),
+    ),
+    (
+        Event::Confirm(PartId(0)),
+        Did::Moved,
+        Some(CONFIRMS_TILE),
+    ),
+    (Event::Announce, Did::Nothing, Some(CONFIRMS_TILE)),
+    (
+        CONFIRMS_TILE,
+        Did::Moved,
+        Some(Event::Confirm(PartId(2))),
+    ),
+    (
+        Event::Confirm(PartId(2)),
+        Did::Moved,
+        Some(Event::Announce),
+    ),
+    (RELEASES_HOST, Did::Nothing, Some(Event::Announce)),
+    (Event::Announce, Did::Moved, Some(RELEASES_HOST)),
+];
+
+/// A thread is idle, and the machine comes to rest. The thread makes steps once its tile is released, and not before. Behind an
+/// announcement each part reports anew.
+const REST: [Step; 19] = [
+    (Event::Turn(FIRST, 1), Did::Moved, Some(HOST_REPORTS)),
+    (HOST_REPORTS, Did::Moved, Some(TILE_REPORTS)),
+    (TILE_REPORTS, Did::Moved, Some(Event::Report(PartId(2)))),
+    (Event::Report(PartId(2)), Did::Moved, Some(Event::Begin)),
+    (
+        Event::Begin,
+        Did::Moved,
+        Some(Event::Confirm(PartId(0))),
+    ),
+    (
+        Event::Confirm(PartId(0)),
+        Did::Moved,
+        Some(CONFIRMS_TILE),
+    ),
+    (
+        CONFIRMS_TILE,
+        Did::Moved,
+        Some(Event::Confirm(PartId(2))),
+    ),
+    (
+        Event::Confirm(PartId(2)),
+        Did::Moved,
+        Some(Event::Announce),
+    ),
+    (Event::Announce, Did::Moved, Some(RELEASES_HOST)),
+    (
+        Event::Release(PartId(1)),
+        Did::Nothing,
+        Some(RELEASES_HOST),
+    ),
+    (
+        RELEASES_HOST,
+        Did::Moved,
+        Some(Event::Release(PartId(1))),
+    ),
+    (
+        Event::Turn(FIRST, 1),
+        Did::Nothing,
+        Some(Event::Release(PartId(1))),
+    ),
+    (
+        Event::Release(PartId(1)),
+        Did::Moved,
+        Some(Event::Turn(FIRST, 1)),
+    ),
+    (
+        Event::Go(PartId(0)),
+        Did::Nothing,
+        Some(Event::Turn(FIRST, 1)),
+    ),
+    (
+        Event::Release(PartId(2)),
+        Did::Moved,
+        Some(Event::Turn(FIRST, 1)),
+    ),
+    (
+        Event::Turn(FIRST, 2),
+        Did::Moved,
+        Some(Event::Go(PartId(0))),
+    ),
+    (
+        Event::Go(PartId(0)),
+        Did::Moved,
+        Some(Event::Go(PartId(1))),
+    ),
+    (
+        Event::Go(PartId(1)),
+        Did::Moved,
+        Some(Event::Go(PartId(2))),
+    ),
+    (Event::Go(PartId(2)), Did::Moved, Some(HOST_REPORTS)),
 ];
 
 /// A message and a trap. Turns come before deliveries in the order of events, and both are enabled.
@@ -150,7 +290,7 @@ const MESSAGE_AND_TRAP: [Step; 4] = [
         Did::Nothing,
         Some(Event::Turn(FIRST, 1)),
     ),
-    (Event::Turn(FIRST, 1), Did::Moved, None),
+    (Event::Turn(FIRST, 1), Did::Moved, Some(HOST_REPORTS)),
 ];
 
 /// A packet from one tile to the next.
@@ -208,7 +348,7 @@ const TO_TILE: [Step; 17] = [
     ),
     (ARRIVES, Did::Moved, Some(Event::Turn(TILE_1, 1))),
     (ARRIVES, Did::Nothing, Some(Event::Turn(TILE_1, 1))),
-    (Event::Turn(TILE_1, 4), Did::Moved, None),
+    (Event::Turn(TILE_1, 4), Did::Moved, Some(HOST_REPORTS)),
 ];
 
 /// A packet by a key of two beats: a copy a route, as soon as the last one left the buffer. The link down holds four.
@@ -334,7 +474,7 @@ const MEETING: [Step; 31] = [
         Did::Moved,
         Some(Event::Deliver(BOARD_1)),
     ),
-    // The host is not built.
+    // The host takes packets by an event of its own.
     (
         Event::Arrive(PartId(11), PartId(0)),
         Did::Nothing,
@@ -349,18 +489,24 @@ const MEETING: [Step; 31] = [
     (ROUTE_4, Did::Moved, Some(OVER)),
 ];
 
-static SCENARIOS: [Scenario; 6] = [
+static SCENARIOS: [Scenario; 7] = [
     Scenario {
         job: TWO,
         steps: &NO_EVENTS,
         ends: &[(Event::Turn(FIRST, 2), None)],
-        rest: Outcome::Jammed,
     },
     Scenario {
         job: TWO,
         steps: &BOTH_END,
-        ends: &[(Event::Turn(SECOND, 1), None)],
-        rest: Outcome::Done,
+        ends: &[
+            (Event::Turn(SECOND, 1), None),
+            (Event::Announce, Some(Outcome::Done)),
+        ],
+    },
+    Scenario {
+        job: AGAINST,
+        steps: &REST,
+        ends: &[(Event::Announce, None)],
     },
     Scenario {
         job: TRAPS,
@@ -372,25 +518,21 @@ static SCENARIOS: [Scenario; 6] = [
             ),
             (Event::Deliver(FIRST), None),
         ],
-        rest: Outcome::Jammed,
     },
     Scenario {
         job: EAST,
         steps: &TO_TILE,
         ends: &[(ARRIVES, None)],
-        rest: Outcome::Done,
     },
     Scenario {
         job: KEYED,
         steps: &BY_KEY,
         ends: &[(ROUTE, None)],
-        rest: Outcome::Jammed,
     },
     Scenario {
         job: MEET,
         steps: &MEETING,
         ends: &[(ROUTE_4, Some(Outcome::BadKey(0))), (ROUTE_3, None)],
-        rest: Outcome::Jammed,
     },
 ];
 
@@ -403,7 +545,6 @@ fn events(rt: HostRuntime) -> Result<(), Fail> {
             "case {k}"
         );
         assert!(rt; other_end(&world, scenario.ends).is_none(), "case {k}");
-        assert!(rt; rest_outcome(&world) == scenario.rest, "case {k}");
     }
     Ok(())
 }
@@ -423,14 +564,46 @@ fn other_play(alloc: Global, job: &[u8], limits: &[Played]) -> Result<Option<u64
     Ok(None)
 }
 
-/// Each turn is as long as it can be: up to the end, up to the trap, and up to the last step that may be made.
-static PLAYS: [(&[u8], &[Played]); 3] = [
+/// Each turn is as long as it can be: up to the end, up to the trap, and up to the last step that may be made. If all threads
+/// have ended, the detector announces it. A machine with a thread that waits has reports of its other parts, and no rest.
+static PLAYS: [(&[u8], &[Played]); 4] = [
     (
         TWO,
         &[
             (0, &[]),
             (1, &[Event::Turn(FIRST, 2)]),
-            (10, &[Event::Turn(SECOND, 2)]),
+            (
+                5,
+                &[
+                    Event::Turn(SECOND, 2),
+                    HOST_REPORTS,
+                    TILE_REPORTS,
+                    Event::Report(PartId(2)),
+                    Event::Begin,
+                ],
+            ),
+            (
+                10,
+                &[
+                    Event::Confirm(PartId(0)),
+                    CONFIRMS_TILE,
+                    Event::Confirm(PartId(2)),
+                    Event::Announce,
+                ],
+            ),
+        ],
+    ),
+    (
+        WAITS,
+        &[
+            (
+                10,
+                &[
+                    Event::Turn(FIRST, 2),
+                    HOST_REPORTS,
+                    Event::Report(PartId(2)),
+                ],
+            ),
             (10, &[]),
         ],
     ),

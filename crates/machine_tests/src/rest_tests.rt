@@ -1,5 +1,5 @@
-//! What a tile and a router say of themselves to the detector, which is not built yet, and what they do when they are told
-//! that the machine is at rest. Each is taken out of a machine after some events.
+//! What a tile and a router say of themselves to the detector, and what they do if the detector tells them that the machine
+//! is at rest. Each is taken out of a machine after some events.
 
 use crate::jobs::{AGAINST, EAST, ENDS_AT_ONCE, FOR, KEYED, SENDERS, SPINS, STORES_A_ZERO, WAITS};
 use crate::machines::{after, machine};
@@ -211,8 +211,7 @@ static CASES: [Case; 13] = [
         part: 1,
         acts: &[(Act::Pages(FIRST, 1), ENDED)],
     },
-    // A thread that is idle with its vote against the end reads 1 once it is released, and makes no step before the tile
-    // goes on.
+    // A thread that is idle with its vote against the end reads 1 once it is released. Its tile is held until it goes on.
     Case {
         job: AGAINST,
         events: &[Event::Turn(FIRST, 1)],

@@ -13,7 +13,7 @@ use Rattle.tn_base.specs.declared.part.Kind.{Kind}
 use Rattle.tn_base.specs.declared.part.Kind.TheVariants as kind
 use Rattle.tn_base.specs.declared.shape.ShapeNumbers.{ShapeNumbers}
 use Rattle.tn_rows.specs.Events.{FitsKind, IsWorld}
-use Rattle.tn_rows.specs.PartView.{PartView, TileV, RouterV, LinkV, HostV, AbsentV}
+use Rattle.tn_rows.specs.PartView.{PartView, TileV, RouterV, LinkV, HostV, DetectorV, AbsentV}
 use Rattle.tn_rows.specs.WorldView.{WorldView}
 use Rattle.tn_thread.specs.declared.thread.Thread.{Thread}
 use Rattle.tn_base.specs.declared.ids.TileId.{TileId}
@@ -91,6 +91,7 @@ no_lines n p (TileV v) fits out =
 no_lines n p (RouterV v) fits out = refl
 no_lines n p (LinkV v) fits out = refl
 no_lines n p (HostV s) fits out = refl
+no_lines n p (DetectorV v) fits out = refl
 no_lines n p AbsentV fits out = refl
 
 -- the lines of a tile
@@ -106,6 +107,7 @@ fitted n a (TileV v) fits count =
 fitted n a (RouterV v) fits count = absurd fits
 fitted n a (LinkV v) fits count = absurd fits
 fitted n a (HostV s) fits count = absurd fits
+fitted n a (DetectorV v) fits count = absurd fits
 fitted n a AbsentV fits count = absurd fits
 
 parts_are : (n : ShapeNumbers) → part_count n ≡ 1 + (tile_count n + length (from_routers n))

@@ -6,7 +6,7 @@ use Rattle.tn_base.specs.declared.event.Trap.{Trap}
 use Rattle.tn_base.specs.declared.event.Trap.TheVariants.{BadInstr, BadFetch, Misaligned, BadAddress, BadCsr, BadDest, SendBusy, RecvEmpty, BadFree, Environment, BadPin, BadLocalKey}
 use Rattle.tn_base.specs.declared.shape.ShapeNumbers.{ShapeNumbers}
 use Rattle.tn_base.specs.Address.{in_tile}
-use Rattle.tn_rows.specs.PartView.{PartView, TileV, RouterV, LinkV, HostV, AbsentV}
+use Rattle.tn_rows.specs.PartView.{PartView, TileV, RouterV, LinkV, HostV, DetectorV, AbsentV}
 use Rattle.tn_rows.specs.WorldView.{WorldView}
 use Rattle.tn_text.specs.Hex.{hex_word_text}
 use Rattle.tn_trace.specs.Host.{hosts_text}
@@ -47,6 +47,7 @@ part_exits (TileV v) = exits_from v.plan.shape v.plan.tile 0 v.now.threads
 part_exits (RouterV v) = []
 part_exits (LinkV v) = []
 part_exits (HostV s) = []
+part_exits (DetectorV v) = []
 part_exits AbsentV = []
 
 -- those of all threads, by address
@@ -72,6 +73,7 @@ part_hosts (TileV v) = []
 part_hosts (RouterV v) = []
 part_hosts (LinkV v) = []
 part_hosts (HostV s) = hosts_text s.got
+part_hosts (DetectorV v) = []
 part_hosts AbsentV = []
 
 -- those that the host took, in the order taken

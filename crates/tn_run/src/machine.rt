@@ -28,7 +28,7 @@ use tn_link::plain::PlainLink;
 use tn_text::lines::law_line_count;
 use tn_trace::print::print_events;
 use tn_words::command::Command;
-use tn_world::events::{final_of, rest_outcome};
+use tn_world::events::final_of;
 use tn_world::play::play;
 use tn_world::world::World;
 
@@ -67,14 +67,14 @@ fn final_after(world: &World<PlainLink>, history: &[Event]) -> Option<Outcome>
     final_of(world, history.last()?)
 }
 
-/// How a run ended, after which the machine is this one. If its last event is not final, no event is enabled.
+/// How a run ended, after which the machine is this one. If its last event is not final, no event is enabled, and the run is jammed.
 fn outcome_of(world: &World<PlainLink>, history: &[Event]) -> Outcome
     requires { MatchOption (final_after (last_of history.now) world.now) (Rests world.now) (λ _. ⊤) }
     ensures { IsOutcome history.now world.now result }
 {
     match final_after(world, history) {
         Some(outcome) => outcome,
-        None => rest_outcome(world),
+        None => Outcome::Jammed,
     }
 }
 
