@@ -148,51 +148,19 @@ const BOTH_END: [Step; 21] = [
     (HOST_REPORTS, Did::Moved, Some(TILE_REPORTS)),
     // A part that reported, a link, the detector itself, and a part that is not there.
     (HOST_REPORTS, Did::Nothing, Some(TILE_REPORTS)),
-    (
-        Event::Report(PartId(3)),
-        Did::Nothing,
-        Some(TILE_REPORTS),
-    ),
-    (
-        Event::Report(PartId(7)),
-        Did::Nothing,
-        Some(TILE_REPORTS),
-    ),
-    (
-        Event::Report(PartId(8)),
-        Did::Nothing,
-        Some(TILE_REPORTS),
-    ),
+    (Event::Report(PartId(3)), Did::Nothing, Some(TILE_REPORTS)),
+    (Event::Report(PartId(7)), Did::Nothing, Some(TILE_REPORTS)),
+    (Event::Report(PartId(8)), Did::Nothing, Some(TILE_REPORTS)),
     // One report is missing.
     (Event::Begin, Did::Nothing, Some(TILE_REPORTS)),
     (TILE_REPORTS, Did::Moved, Some(Event::Begin)),
     (Event::Announce, Did::Nothing, Some(Event::Begin)),
-    (
-        Event::Begin,
-        Did::Moved,
-        Some(Event::Confirm(PartId(0))),
-    ),
-    (
-        CONFIRMS_TILE,
-        Did::Nothing,
-        Some(Event::Confirm(PartId(0))),
-    ),
-    (
-        Event::Confirm(PartId(0)),
-        Did::Moved,
-        Some(CONFIRMS_TILE),
-    ),
+    (Event::Begin, Did::Moved, Some(Event::Confirm(PartId(0)))),
+    (CONFIRMS_TILE, Did::Nothing, Some(Event::Confirm(PartId(0)))),
+    (Event::Confirm(PartId(0)), Did::Moved, Some(CONFIRMS_TILE)),
     (Event::Announce, Did::Nothing, Some(CONFIRMS_TILE)),
-    (
-        CONFIRMS_TILE,
-        Did::Moved,
-        Some(Event::Confirm(PartId(2))),
-    ),
-    (
-        Event::Confirm(PartId(2)),
-        Did::Moved,
-        Some(Event::Announce),
-    ),
+    (CONFIRMS_TILE, Did::Moved, Some(Event::Confirm(PartId(2)))),
+    (Event::Confirm(PartId(2)), Did::Moved, Some(Event::Announce)),
     (RELEASES_HOST, Did::Nothing, Some(Event::Announce)),
     (Event::Announce, Did::Moved, Some(RELEASES_HOST)),
 ];
@@ -204,37 +172,13 @@ const REST: [Step; 19] = [
     (HOST_REPORTS, Did::Moved, Some(TILE_REPORTS)),
     (TILE_REPORTS, Did::Moved, Some(Event::Report(PartId(2)))),
     (Event::Report(PartId(2)), Did::Moved, Some(Event::Begin)),
-    (
-        Event::Begin,
-        Did::Moved,
-        Some(Event::Confirm(PartId(0))),
-    ),
-    (
-        Event::Confirm(PartId(0)),
-        Did::Moved,
-        Some(CONFIRMS_TILE),
-    ),
-    (
-        CONFIRMS_TILE,
-        Did::Moved,
-        Some(Event::Confirm(PartId(2))),
-    ),
-    (
-        Event::Confirm(PartId(2)),
-        Did::Moved,
-        Some(Event::Announce),
-    ),
+    (Event::Begin, Did::Moved, Some(Event::Confirm(PartId(0)))),
+    (Event::Confirm(PartId(0)), Did::Moved, Some(CONFIRMS_TILE)),
+    (CONFIRMS_TILE, Did::Moved, Some(Event::Confirm(PartId(2)))),
+    (Event::Confirm(PartId(2)), Did::Moved, Some(Event::Announce)),
     (Event::Announce, Did::Moved, Some(RELEASES_HOST)),
-    (
-        Event::Release(PartId(1)),
-        Did::Nothing,
-        Some(RELEASES_HOST),
-    ),
-    (
-        RELEASES_HOST,
-        Did::Moved,
-        Some(Event::Release(PartId(1))),
-    ),
+    (Event::Release(PartId(1)), Did::Nothing, Some(RELEASES_HOST)),
+    (RELEASES_HOST, Did::Moved, Some(Event::Release(PartId(1)))),
     (
         Event::Turn(FIRST, 1),
         Did::Nothing,
@@ -260,16 +204,8 @@ const REST: [Step; 19] = [
         Did::Moved,
         Some(Event::Go(PartId(0))),
     ),
-    (
-        Event::Go(PartId(0)),
-        Did::Moved,
-        Some(Event::Go(PartId(1))),
-    ),
-    (
-        Event::Go(PartId(1)),
-        Did::Moved,
-        Some(Event::Go(PartId(2))),
-    ),
+    (Event::Go(PartId(0)), Did::Moved, Some(Event::Go(PartId(1)))),
+    (Event::Go(PartId(1)), Did::Moved, Some(Event::Go(PartId(2)))),
     (Event::Go(PartId(2)), Did::Moved, Some(HOST_REPORTS)),
 ];
 
