@@ -4,7 +4,7 @@ use Rattle.std.specs.List.{slice_get}
 use Rattle.std.specs.Prelude.{OnOk}
 use Rattle.std.specs.declared.result.Result.{Result}
 use Rattle.std.specs.declared.result.Result.TheVariants.{Ok, Err}
-use Rattle.std.proofs.Common.{cond, ℕ, ◌≡◌, Bool, Bor, true, false, refl, sym, ◌∙◌, ap, Option, Some, None, is_some, option_map, unwrap_or}
+use Rattle.std.proofs.Common.{[], ◌∷◌, cond, ℕ, ◌≡◌, Bool, Bor, true, false, refl, sym, ◌∙◌, ap, Option, Some, None, is_some, option_map, unwrap_or}
 use Rattle.tn_base.specs.declared.event.Event.{Event}
 use Rattle.tn_base.specs.declared.event.Event.TheVariants as event
 use Rattle.tn_base.specs.declared.ids.PartId.{PartId}
@@ -15,11 +15,13 @@ use Rattle.tn_stamp.specs.declared.entry.Crossing.TheVariants as crossing
 use Rattle.tn_tile.specs.declared.state.TileState.{TileState}
 use Rattle.tn_tile.specs.Rows.{accept_row, accepted, came, passed}
 use Rattle.tn_tile.specs.TileView.{TilePlan, TileView, now_by, with_now}
-use Rattle.tn_rows.specs.Events.{after, carried, happened, happened_at, met_by, met_with, meets, meets_at, with_both}
-use Rattle.tn_rows.specs.PartView.{PartView, TileV, RouterV, LinkV, HostV, AbsentV, tile_of}
-use Rattle.tn_rows.specs.Places.{leads_to, two_if}
+use Rattle.tn_rows.specs.Events.{after, carried, happened, happened_at, met_by, met_with, meets, meets_at, with_both, with_part}
+use Rattle.tn_rows.specs.PartView.{PartView, TileV, RouterV, LinkV, HostV, DetectorV, AbsentV, tile_of}
+use Rattle.tn_rows.specs.Places.{detector_part, leads_to, two_if}
 use Rattle.tn_rows.specs.WorldView.{WorldView}
-use Rattle.tn_letters.specs.Steps.{arrival_steps, delivery_steps, event_steps, steps_at}
+use Rattle.tn_keys.specs.Reach.{Reach}
+use Rattle.tn_letters.specs.declared.steps.BagStep.TheVariants as bag
+use Rattle.tn_letters.specs.Steps.{arrival_steps, delivery_steps, event_steps, part_steps, steps_at}
 use Rattle.tn_letters.specs.Tiles.{reach_of}
 
 -- ---- a packet that arrives
@@ -40,6 +42,7 @@ read_tile (Some (TileV u)) v e = ap (λ (x : Option TileView). Some (TileV (unwr
 read_tile (Some (RouterV x)) v e = cc e
 read_tile (Some (LinkV x)) v e = cc e
 read_tile (Some (HostV h)) v e = cc e
+read_tile (Some (DetectorV d)) v e = cc e
 read_tile (Some AbsentV) v e = cc e
 
 some_taken : {X : Type 0} (b : Bool) (o : Option X) → is_some (cond b o None) ≡ true → (b ≡ true) × (is_some o ≡ true)
@@ -89,6 +92,40 @@ arrival_is w l p v o a e =
     ap (λ x. delivery_steps (reach_of w) x v) e
     ∙ (ap (λ low. arrival_steps (reach_of w) (option_and_then carried (slice_get w.parts l.0)) low) (sym a.low)
     ∙ ap (λ b. steps_at (event.Arrive l p) w (two_if b p.0 l.0)) (sym a.leads))
+
+-- if no tile is there, nothing is dropped
+no_taking : (reach : Reach) (k : Option Packet) (x : Option PartView) → option_and_then tile_of x ≡ None → arrival_steps reach k x ≡ []
+no_taking reach k None e = refl
+no_taking reach k (Some (TileV v)) e = cc e
+no_taking reach k (Some (RouterV v)) e = refl
+no_taking reach k (Some (LinkV v)) e = refl
+no_taking reach k (Some (HostV h)) e = refl
+no_taking reach k (Some (DetectorV d)) e = refl
+no_taking reach k (Some AbsentV) e = refl
+
+none_dropped : (w : WorldView) (l p : PartId) (b : Bool) → option_and_then tile_of (slice_get w.parts p.0) ≡ None → steps_at (event.Arrive l p) w (two_if b p.0 l.0) ≡ []
+none_dropped w l p true e = no_taking (reach_of w) (option_and_then carried (slice_get w.parts l.0)) (slice_get w.parts p.0) e
+none_dropped w l p false e = refl
+
+pub arrival_not : (w : WorldView) (l p : PartId) → option_and_then tile_of (slice_get w.parts p.0) ≡ None → event_steps (event.Arrive l p) w ≡ []
+arrival_not w l p e = none_dropped w l p (leads_to p.0 (kind_of w.shape l.0)) e
+
+-- ---- an announcement
+
+-- a part that announces is the detector
+announces : (reach : Reach) (x : Option PartView) → is_some (option_and_then (after event.Announce crossing.None) x) ≡ true → part_steps reach event.Announce x ≡ bag.Announce ∷ []
+announces reach None e = cc e
+announces reach (Some (TileV v)) e = cc e
+announces reach (Some (RouterV v)) e = cc e
+announces reach (Some (LinkV v)) e = cc e
+announces reach (Some (HostV h)) e = cc e
+announces reach (Some (DetectorV d)) e = refl
+announces reach (Some AbsentV) e = cc e
+
+pub announcement_is : (w : WorldView) → is_some (happened event.Announce w) ≡ true → event_steps event.Announce w ≡ bag.Announce ∷ []
+announcement_is w e =
+    let at : Option PartView = slice_get w.parts (detector_part w.shape) in
+    announces (reach_of w) at (some_of (with_part w (detector_part w.shape)) (option_and_then (after event.Announce crossing.None) at) e)
 
 -- what a call that had memory did, read otherwise
 pub on_ok : {T E P Q : Type 0} (r : Result T E) → (P → Q) → OnOk r P → OnOk r Q

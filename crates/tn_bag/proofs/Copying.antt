@@ -22,7 +22,7 @@ use Rattle.tn_keys.specs.Reach.{reach, reach_by, walk}
 use Rattle.tn_keys.proofs.Reaching.{reach_by-suc}
 use Rattle.tn_keys.specs.Tables.{Table, board_place, joined, table_of}
 use Rattle.tn_router.specs.RouterView.{RouterView}
-use Rattle.tn_rows.specs.PartView.{PartView, TileV, RouterV, LinkV, HostV, AbsentV, router_of}
+use Rattle.tn_rows.specs.PartView.{PartView, TileV, RouterV, LinkV, HostV, DetectorV, AbsentV, router_of}
 use Rattle.tn_rows.specs.WorldView.{WorldView}
 use Rattle.tn_letters.specs.Letters.{letter, letter_for, letters_from}
 use Rattle.tn_letters.specs.Tiles.{beats_on, reach_of, tables_of}
@@ -72,6 +72,8 @@ router_read (LinkV x) None e = refl
 router_read (LinkV x) (Some r) e = cc e
 router_read (HostV h) None e = refl
 router_read (HostV h) (Some r) e = cc e
+router_read (DetectorV d) None e = refl
+router_read (DetectorV d) (Some r) e = cc e
 router_read AbsentV None e = refl
 router_read AbsentV (Some r) e = cc e
 

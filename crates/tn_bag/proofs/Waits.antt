@@ -22,7 +22,7 @@ use Rattle.tn_router.specs.declared.work.Work.{Work}
 use Rattle.tn_router.specs.Left.{board_on, copies_left, copies_out}
 use Rattle.tn_router.specs.Rest.{beats_from, rest_by}
 use Rattle.tn_router.specs.RouterView.{RouterView}
-use Rattle.tn_rows.specs.PartView.{PartView, TileV, RouterV, LinkV, HostV, AbsentV, router_of}
+use Rattle.tn_rows.specs.PartView.{PartView, TileV, RouterV, LinkV, HostV, DetectorV, AbsentV, router_of}
 use Rattle.tn_rows.specs.WorldView.{WorldView}
 use Rattle.tn_letters.specs.declared.place.Place.{Place}
 use Rattle.tn_letters.specs.declared.place.Place.TheVariants as place
@@ -112,4 +112,5 @@ router_letters n on p (TileV t) v e = cc e
 router_letters n on p (RouterV r) v e = ap (λ (o : Option RouterView). router_standing on p (unwrap_or o v)) e
 router_letters n on p (LinkV l) v e = cc e
 router_letters n on p (HostV h) v e = cc e
+router_letters n on p (DetectorV d) v e = cc e
 router_letters n on p AbsentV v e = cc e

@@ -82,6 +82,10 @@ fn push_event<L: Link>(
             None => Ok(()),
         },
         Event::HostTake => push_taken(all, front_at(world, link_to_host(world.shape()))),
+        Event::Announce => {
+            all.push(BagStep::Announce)?;
+            Ok(())
+        }
         _ => Ok(()),
     }
 }
