@@ -76,7 +76,7 @@ part_starts job (kind.Tile tile) sized sends = (code_of (sections_of job) tile.0
 part_starts job kind.Host sized sends = (script_of job, items_are job.numbers job.script sends, refl)
 part_starts job (kind.Router board) sized sends = (table_for job board, refl)
 part_starts job (kind.Link from onto) sized sends = refl
-part_starts job kind.Detector sized sends = tt
+part_starts job kind.Detector sized sends = refl
 
 -- the table of each board's router is the job's
 router_table : (job : Job) (i : ℕ) → i < board_count job.numbers → beats_on (get_or (map (part_start job) (parts job.numbers)) (router_part job.numbers i) AbsentV) ≡ table_for job (board_at job.numbers i)

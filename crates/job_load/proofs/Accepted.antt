@@ -15,11 +15,12 @@ use Rattle.tn_rows.specs.WorldView.{WorldView}
 use Rattle.job_text.specs.declared.job.FillLine.{FillLine}
 use Rattle.job_text.specs.declared.job.Job.{Job}
 use Rattle.job_text.specs.declared.job.TableSection.{TableSection}
+use Rattle.job_text.specs.declared.job.TextSection.{TextSection}
 use Rattle.job_load.specs.declared.fault.FaultName.TheVariants as fault
 use Rattle.job_load.specs.declared.fault.LoadFault.{LoadFault}
 use Rattle.job_load.specs.Code.{code_of, is_empty, lacks_code}
 use Rattle.job_load.specs.Assembly.{sections_of}
-use Rattle.job_load.specs.Faults.{asm_fault, beat_fault, beat_lines, fault_at, fill_fault, has_board, missing_fault, number_fault, place_fault, section_fault, send_fault, shape_line, unbuilt_fault, unbuilt_line}
+use Rattle.job_load.specs.Faults.{asm_fault, beat_fault, beat_lines, fault_at, fill_fault, has_board, missing_fault, number_fault, place_fault, section_fault, send_fault, shape_line, unbuilt_fault}
 use Rattle.job_load.specs.Images.{IsWithin}
 use Rattle.job_load.specs.Labels.{labels_fault}
 use Rattle.job_load.specs.Room.{room_fault}
@@ -92,7 +93,7 @@ fresh_part job (kind.Tile tile) = record { pending = refl; pool = refl; node = r
 fresh_part job kind.Host = refl
 fresh_part job (kind.Router board) = record { inputs = refl; node = refl; going = refl }
 fresh_part job (kind.Link from onto) = refl
-fresh_part job kind.Detector = tt
+fresh_part job kind.Detector = refl
 
 fresh_parts : (job : Job) (kinds : List Kind) → AllByRecursion IsFreshPart (map (part_start job) kinds)
 fresh_parts job [] = tt
@@ -150,10 +151,14 @@ accepted job w e =
     let P : WorldView → Type 0 = λ v. IsStart job v in
     subst P same (start_by job none.numbers none.sections none.missing none.tables)
 
--- any other fault refuses a job before what is not there yet
+-- any other fault refuses a job before its graph does
 pub unbuilt_last : (job : Job) (f : LoadFault) → load_fault job ≡ Some f → loaded job ≡ Err f
 unbuilt_last job f e = rw e refl
 
--- and where there is no other, what is not there yet refuses it
-pub unbuilt_refuses : (job : Job) (line : ℕ) → load_fault job ≡ None → unbuilt_line job ≡ Some line → loaded job ≡ Err (fault_at line fault.UnsupportedYet)
-unbuilt_refuses job line none e = rw (none, e) refl
+-- if no other fault refuses a job, its graph does
+pub unbuilt_refuses : (job : Job) (graph : TextSection) → load_fault job ≡ None → job.graph ≡ Some graph → loaded job ≡ Err (fault_at graph.line fault.UnsupportedYet)
+unbuilt_refuses job graph none e = rw (none, e) refl
+
+-- a job without a fault and without a graph is accepted
+pub unbuilt_accepts : (job : Job) → load_fault job ≡ None → job.graph ≡ None → loaded job ≡ Ok (start_of job)
+unbuilt_accepts job none e = rw (none, e) refl

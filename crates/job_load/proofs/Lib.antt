@@ -5,7 +5,6 @@ pub mod Faults
 pub mod First
 pub mod Images
 pub mod Labelled
-pub mod Least
 pub mod Maps
 pub mod Memory
 pub mod Named

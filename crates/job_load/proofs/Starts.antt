@@ -3,14 +3,14 @@ use Rattle.std.proofs.Common.{ℕ, ◌≡◌, ◌≤◌, ◌+◌, ◌∷◌, ◌
 use Rattle.std.specs.List.{AllByRecursion, range_with_len}
 use Rattle.std.specs.declared.result.Result.{Result}
 use Rattle.std.proofs.lemmas.Bool.Decides.{nat_tests}
-use Rattle.std.proofs.lemmas.List.{get_or-map, length-map}
+use Rattle.std.proofs.lemmas.List.{get_or-map, length-map, length-replicate}
 use Rattle.std.proofs.lemmas.List.FromFn.{get_or-map-range_with_len, length-map-range_with_len}
 use Rattle.tn_base.specs.declared.ids.ThreadId.{ThreadId}
 use Rattle.tn_base.specs.declared.part.Kind.{Kind}
 use Rattle.tn_base.specs.declared.part.Kind.TheVariants as kind
 use Rattle.tn_base.specs.declared.shape.ShapeNumbers.{ShapeNumbers}
 use Rattle.tn_base.specs.Address.{has_thread, in_tile, tile_threads}
-use Rattle.tn_base.specs.Parts.{kind_of, parts}
+use Rattle.tn_base.specs.Parts.{kind_of, parts, visited}
 use Rattle.tn_rows.specs.Events.{FitsKind, IsWorld}
 use Rattle.tn_rows.specs.PartView.{PartView, AbsentV}
 use Rattle.tn_rows.specs.WorldView.{WorldView}
@@ -87,7 +87,7 @@ fits_kind job (kind.Tile tile) = (refl, refl)
 fits_kind job kind.Host = tt
 fits_kind job (kind.Router board) = (refl, refl)
 fits_kind job (kind.Link from onto) = refl
-fits_kind job kind.Detector = tt
+fits_kind job kind.Detector = (refl, record { some = omega arith; places = length-replicate (visited job.numbers) None })
 
 pub start_is_world : (job : Job) → IsWorld (start_of job)
 start_is_world job = record {

@@ -1,6 +1,6 @@
 -- The faults of a job that makes no machine. `Loaded` has the order in which they refuse it.
-use Rattle.std.specs.Prelude.{ℕ, ◌+◌, ◌&&◌, Bool, min, not, List, [], ◌∷◌, length, map, nat_le, nat_lt, Option, Some, None, option_map, if◌then◌else◌}
-use Rattle.std.specs.List.{filter, flat_map, reduce}
+use Rattle.std.specs.Prelude.{ℕ, ◌+◌, ◌&&◌, Bool, not, List, [], ◌∷◌, length, nat_le, nat_lt, Option, Some, None, option_map, if◌then◌else◌}
+use Rattle.std.specs.List.{flat_map}
 use Rattle.std.specs.declared.result.Result.{Result}
 use Rattle.std.specs.declared.result.Result.TheVariants.{Ok, Err}
 use Rattle.tn_base.specs.declared.shape.ShapeFault.{ShapeFault}
@@ -29,7 +29,6 @@ use Rattle.job_load.specs.declared.fault.LoadFault.{LoadFault}
 use Rattle.job_load.specs.Assembly.{asms_fault, sections_of}
 use Rattle.job_load.specs.Code.{lacks_code}
 use Rattle.job_load.specs.Names.{name_of_beat, name_of_number}
-use Rattle.job_load.specs.Script.{waits}
 
 abbrev pub fault_at : ℕ → FaultName → LoadFault
 fault_at line kind = record { line = line; kind = kind }
@@ -144,21 +143,6 @@ section_fault job =
 abbrev pub missing_fault : Job → Option LoadFault
 missing_fault job = if lacks_code job.numbers (sections_of job) then Some (fault_at (shape_line job.number_lines) fault.NoCode) else None
 
--- What the machine does not have yet, which refuses a job last.
-
--- the earlier one of two lines
-abbrev pub earlier : Option ℕ → Option ℕ → Option ℕ
-earlier None line = line
-earlier (Some a) None = Some a
-earlier (Some a) (Some b) = Some (min a b)
-
--- the first of the lines on which these stand
-abbrev pub first_line : {X : Type 0} → (X → ℕ) → List X → Option ℕ
-first_line line items = reduce min (map line items)
-
--- the first line that gives what is not there yet: a script that waits for the machine's rest, or a graph
-abbrev pub unbuilt_line : Job → Option ℕ
-unbuilt_line job = earlier (first_line (λ l. l.line) (filter (λ l. waits l.item) job.script)) (option_map (λ graph. graph.line) job.graph)
-
+-- What the machine does not have yet, which refuses a job last: a graph, at its line.
 abbrev pub unbuilt_fault : Job → Option LoadFault
-unbuilt_fault job = option_map (λ line. fault_at line fault.UnsupportedYet) (unbuilt_line job)
+unbuilt_fault job = option_map (λ graph. fault_at graph.line fault.UnsupportedYet) job.graph

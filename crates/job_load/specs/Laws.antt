@@ -1,18 +1,19 @@
 -- What the definitions of faults and of memory mean.
-use Rattle.std.specs.Prelude.{ℕ, ◌≡◌, ◌⊎◌, ◌≤◌, ◌<◌, ◌+◌, ◌-◌, ◌++◌, ◌&&◌, List, [], ◌∷◌, length, map, nat_le, nat_lt, Option, Some, None, option_map, replicate, slice_index, if◌then◌else◌, IsTrue}
-use Rattle.std.specs.List.{AllByRecursion, filter, filter_map}
+use Rattle.std.specs.Prelude.{ℕ, ◌≡◌, ◌⊎◌, ◌≤◌, ◌<◌, ◌+◌, ◌-◌, ◌++◌, ◌&&◌, List, [], ◌∷◌, length, nat_le, nat_lt, Option, Some, None, replicate, slice_index, if◌then◌else◌, IsTrue}
+use Rattle.std.specs.List.{AllByRecursion, filter_map}
 use Rattle.std.specs.Option.{option_or, unwrap_or}
 use Rattle.tn_base.specs.Address.{has_thread, tile_threads}
 use Rattle.tn_base.specs.Message.{slot_bytes}
 use Rattle.tn_base.specs.Parts.{tile_at, tile_count}
 use Rattle.tn_base.specs.Shape.{is_shape}
+use Rattle.tn_detect.specs.DetectorView.{fresh_detector}
 use Rattle.tn_keys.specs.Accepted.{Accepted}
 use Rattle.tn_node.specs.NodeRows.{fresh_node}
 use Rattle.tn_node.specs.PortRows.{no_values}
 use Rattle.tn_router.specs.RouterView.{RouterView}
 use Rattle.tn_rows.specs.Events.{IsWorld}
 use Rattle.tn_host.specs.Rows.{fresh_state as fresh_host}
-use Rattle.tn_rows.specs.PartView.{PartView, TileV, RouterV, LinkV, HostV, AbsentV}
+use Rattle.tn_rows.specs.PartView.{PartView, TileV, RouterV, LinkV, HostV, DetectorV, AbsentV}
 use Rattle.tn_rows.specs.WorldView.{WorldView}
 use Rattle.tn_slots.specs.Pool.{fresh}
 use Rattle.tn_tile.specs.TileView.{TileView}
@@ -23,7 +24,6 @@ use Rattle.job_load.specs.Assembly.{sections_of}
 use Rattle.job_load.specs.Code.{code_of}
 use Rattle.job_load.specs.Faults.{beat_fault, beat_lines, code_fault, fill_fault, has_board, place_fault, send_fault}
 use Rattle.job_load.specs.Images.{IsWithin, fills_of, memory_of}
-use Rattle.job_load.specs.Script.{waits}
 use Rattle.job_load.specs.Start.{start_of}
 use Rattle.job_load.specs.Tables.{tables_of}
 
@@ -63,26 +63,6 @@ pub record IsMemory (size : ℕ) (fills : List FillLine) (thread : ℕ) : Type 0
   pub size_is : length (memory_of size fills thread) ≡ size
   pub byte : (a : ℕ) → slice_index (memory_of size fills thread) a ≡ unwrap_or (last_given (fills_of thread fills) a) 0
 
--- What is not there yet.
-
--- the line of an option
-abbrev pub line_of : Option ℕ → List ℕ
-line_of None = []
-line_of (Some line) = line ∷ []
-
--- all lines that give what is not there yet
-abbrev pub unbuilt_lines : Job → List ℕ
-unbuilt_lines job = map (λ l. l.line) (filter (λ l. waits l.item) job.script) ++ line_of (option_map (λ graph. graph.line) job.graph)
-
-abbrev pub IsIn : ℕ → List ℕ → Type 0
-IsIn line [] = ⊥
-IsIn line (l ∷ ls) = (line ≡ l) ⊎ IsIn line ls
-
--- the least of these lines, or there are none
-abbrev pub IsLeast : Option ℕ → List ℕ → Type 0
-IsLeast None lines = lines ≡ []
-IsLeast (Some line) lines = IsIn line lines × AllByRecursion (λ l. line ≤ l) lines
-
 -- The start.
 
 -- nothing has happened on a tile
@@ -104,6 +84,7 @@ IsFreshPart (TileV v) = IsFresh v
 IsFreshPart (RouterV v) = IsFreshRouter v
 IsFreshPart (LinkV v) = v.packets ≡ []
 IsFreshPart (HostV s) = s ≡ fresh_host s.script
+IsFreshPart (DetectorV v) = v ≡ fresh_detector v.visited
 IsFreshPart AbsentV = Unit {0}
 
 -- the machine of an accepted job at its start

@@ -1,5 +1,5 @@
 -- What a job makes: its machine at the start, or its graph with places and routes, or the first fault.
--- A job with a graph or a host's line makes no machine yet.
+-- A job with a graph makes no machine yet.
 use Rattle.std.specs.Prelude.{ℕ, Option, Some, None}
 use Rattle.std.specs.Option.{option_or}
 use Rattle.std.specs.declared.result.Result.{Result}

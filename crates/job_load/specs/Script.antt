@@ -1,5 +1,5 @@
 -- The script of a job's host.
-use Rattle.std.specs.Prelude.{ℕ, Bool, true, false, List, length, Option, Some, None, if◌then◌else◌}
+use Rattle.std.specs.Prelude.{List, length, Option, Some, None, if◌then◌else◌}
 use Rattle.std.specs.List.{filter_map}
 use Rattle.tn_base.specs.Bytes.{is_length}
 use Rattle.tn_host.specs.declared.script.ScriptItem.{ScriptItem}
@@ -17,8 +17,3 @@ item_of Idle = Some item.AwaitIdle
 -- the items of a job's lines, in order
 abbrev pub script_of : Job → List ScriptItem
 script_of job = filter_map (λ l. item_of l.item) job.script
-
--- the host waits for the machine's rest there
-abbrev pub waits : ScriptText → Bool
-waits (Send thread bytes) = false
-waits Idle = true

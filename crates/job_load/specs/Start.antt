@@ -5,11 +5,12 @@ use Rattle.tn_base.specs.declared.part.Kind.{Kind}
 use Rattle.tn_base.specs.declared.part.Kind.TheVariants as kind
 use Rattle.tn_base.specs.declared.shape.ShapeNumbers.{ShapeNumbers}
 use Rattle.tn_base.specs.Address.{has_tile, in_tile, tile_threads}
-use Rattle.tn_base.specs.Parts.{parts}
+use Rattle.tn_base.specs.Parts.{parts, visited}
+use Rattle.tn_detect.specs.DetectorView.{fresh_detector}
 use Rattle.tn_host.specs.Rows.{fresh_state}
 use Rattle.tn_keys.specs.Tables.{HasBoard}
 use Rattle.tn_router.specs.Kept.{fresh_router}
-use Rattle.tn_rows.specs.PartView.{PartView, TileV, RouterV, LinkV, HostV, AbsentV}
+use Rattle.tn_rows.specs.PartView.{PartView, TileV, RouterV, LinkV, HostV, DetectorV}
 use Rattle.tn_rows.specs.WorldView.{WorldView}
 use Rattle.tn_thread.specs.declared.thread.Thread.{Thread}
 use Rattle.tn_thread.specs.Step.{started}
@@ -38,14 +39,14 @@ thread_over n images thread = started n (record { 0 = thread }) (image_at images
 abbrev pub tile_start : Job → ℕ → TileView
 tile_start job tile = fresh_tile job.numbers tile (code_of (sections_of job) tile) (by_address (thread_start job) job.numbers tile)
 
--- a part at its start: a tile, a router over its table, a link without packets, or the host with its script. The detector is not there
--- yet
+-- a part at its start: a tile, a router over its table, a link without packets, the host with its script, or the detector
+-- without reports, which visits the host, the tiles and the routers
 abbrev pub part_start : Job → Kind → PartView
 part_start job (kind.Tile tile) = TileV (tile_start job tile.0)
 part_start job kind.Host = HostV (fresh_state (script_of job))
 part_start job (kind.Router board) = RouterV (fresh_router job.numbers board (table_for job board))
 part_start job (kind.Link from onto) = LinkV (record { packets = []; capacity = job.numbers.link })
-part_start job kind.Detector = AbsentV
+part_start job kind.Detector = DetectorV (fresh_detector (visited job.numbers))
 
 -- the machine at its start: one part for each part of its shape
 abbrev pub start_of : Job → WorldView

@@ -5,24 +5,26 @@ ghost use Rattle.std.specs.List.{AllByRecursion};
 ghost use Rattle.tn_rows.specs.WorldView.{WorldView};
 ghost use Rattle.job_text.specs.declared.job.FillLine.{FillLine};
 ghost use Rattle.job_text.specs.declared.job.Job.{Job};
+ghost use Rattle.job_text.specs.declared.job.TextSection.{TextSection};
 ghost use Rattle.job_load.specs.declared.fault.FaultName.TheVariants as fault;
 ghost use Rattle.job_load.specs.declared.fault.LoadFault.{LoadFault};
-ghost use Rattle.job_load.specs.Faults.{fault_at, section_fault, unbuilt_line};
+ghost use Rattle.job_load.specs.Faults.{fault_at, section_fault};
 ghost use Rattle.job_load.specs.Images.{IsWithin};
-ghost use Rattle.job_load.specs.Laws.{IsFirst, IsLeast, IsMemory, IsStart, section_faults, unbuilt_lines};
+ghost use Rattle.job_load.specs.Laws.{IsFirst, IsMemory, IsStart, section_faults};
 ghost use Rattle.job_load.specs.Loaded.{load_fault, loaded};
+ghost use Rattle.job_load.specs.Start.{start_of};
 
 /// Of all faults of sections the one that refuses a job stands on the first line.
 pub fn law_sections()
     ensures { (job : Job) → IsFirst (section_fault job) (section_faults job) }
 {}
 
-/// Of all lines that give what the machine does not have yet the first one refuses the job, if no fault does. Any fault
-/// refuses the job before.
+/// A fault refuses a job before its graph does. If no fault refuses a job, its graph refuses the job at the graph's line. A
+/// job without a fault and without a graph is accepted, whatever its host waits for.
 pub fn law_unbuilt()
-    ensures first { (job : Job) → IsLeast (unbuilt_line job) (unbuilt_lines job) }
-    ensures refuses { (job : Job) (line : ℕ) → load_fault job ≡ None → unbuilt_line job ≡ Some line → loaded job ≡ Err (fault_at line fault.UnsupportedYet) }
     ensures last { (job : Job) (found : LoadFault) → load_fault job ≡ Some found → loaded job ≡ Err found }
+    ensures refuses { (job : Job) (graph : TextSection) → load_fault job ≡ None → job.graph ≡ Some graph → loaded job ≡ Err (fault_at graph.line fault.UnsupportedYet) }
+    ensures accepts { (job : Job) → load_fault job ≡ None → job.graph ≡ None → loaded job ≡ Ok (start_of job) }
 {}
 
 /// A job that is accepted gives a machine in which nothing has happened.

@@ -19,9 +19,9 @@ use tn_world::world::World;
 /// with; a section that is no assembly, at its first line at fault; a text that is no graph, at its first line at fault;
 /// more vertices than the threads take, then too many keys, then too many beats, at the graph's line; a section that names
 /// what the machine does not have, or a beat that is none, the first in order of lines; a tile without code; a table that
-/// leads nowhere or too far, of the first board; and last what the machine does not have yet, the first in order of lines.
-/// At the start no thread has made a step, no message stands anywhere, none was dropped, and no part tells an end
-/// (`laws::law_start`).
+/// leads nowhere or too far, of the first board; and last a graph, at its line, since no machine is made of a graph yet.
+/// At the start no thread has made a step, no message is anywhere, no message was dropped, and no part tells an end. The
+/// detector has no report (`laws::law_start`).
 pub fn load(alloc: Global, job: &Job) -> Result<World<PlainLink>, LoadStop>
     requires formed { IsWellFormed job.now }
     requires numbered { AreNumbered job.now }

@@ -2,7 +2,7 @@
 
 ghost use Rattle.std.specs.Prelude.{◌≡◌, ◌<◌, ◌^◌, IfOk, length};
 ghost use Rattle.std.specs.List.{filter_map};
-ghost use Rattle.job_load.specs.Script.{item_of, script_of, waits};
+ghost use Rattle.job_load.specs.Script.{item_of, script_of};
 
 use job_text::job::{Job, ScriptLine, ScriptText};
 use std::alloc::{AllocError, Global};
@@ -46,14 +46,4 @@ pub(crate) fn script_of(alloc: Global, job: &Job) -> Result<Vec<ScriptItem>, All
         return Err(AllocError);
     }
     Ok(items)
-}
-
-/// Whether the host waits for the machine's rest at a line.
-pub(crate) fn waits(text: &ScriptText) -> bool
-    ensures { result ≡ waits text.now }
-{
-    match text {
-        ScriptText::Send(..) => false,
-        ScriptText::Idle => true,
-    }
 }

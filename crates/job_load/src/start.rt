@@ -19,6 +19,7 @@ use tn_base::ids::{PartId, TileId};
 use tn_base::laws::law_tiles;
 use tn_base::part::Kind;
 use tn_base::shape::Shape;
+use tn_detect::detector::Detector;
 use tn_host::host::Host;
 use tn_link::plain::PlainLink;
 use tn_router::router::Router;
@@ -100,7 +101,7 @@ fn part_of(
             let script = script_of(alloc, job)?;
             Ok(Part::host(Host::of(alloc, script)))
         }
-        Kind::Detector => Ok(Part::absent()),
+        Kind::Detector => Ok(Part::detector(Detector::of(alloc, shape.visited())?)),
     }
 }
 
