@@ -14,6 +14,7 @@ use tn_base::message::Dest;
 use tn_base::op::Op;
 use tn_base::regs::Regs;
 use tn_base::shape::{Shape, ShapeNumbers};
+use tn_pages::stock::PageStock;
 use tn_thread::command::Command;
 use tn_thread::state::{ThreadState, WaitSet};
 use tn_thread::thread::{FIRMWARE, Thread};
@@ -157,7 +158,9 @@ fn used(alloc: Global, csr: u16, writes: bool, view: &Seen) -> Result<Became, Fa
     } else {
         Effect::CsrRead { rd: 5, csr }
     };
-    let op = thread.apply(effect, view);
+    let mut stock = PageStock::of(alloc);
+    stock.reserve(1)?;
+    let op = thread.apply(effect, view, &mut stock);
     Ok(look_at(&thread, &op))
 }
 
