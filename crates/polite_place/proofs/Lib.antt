@@ -3,6 +3,7 @@ pub mod Apart
 pub mod Counts
 pub mod Firsts
 pub mod Gathering
+pub mod Rosters
 pub mod Scans
 pub mod Seating
 pub mod Shares

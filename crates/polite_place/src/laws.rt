@@ -6,6 +6,7 @@ ghost use Rattle.graph_text.specs.Graph.{IsGraph};
 ghost use Rattle.graph_text.specs.declared.graph.Graph.{Graph};
 ghost use Rattle.polite_place.specs.Order.{AllListsBelow, Once, bfs};
 ghost use Rattle.polite_place.specs.Outs.{outs_of};
+ghost use Rattle.polite_place.specs.Roster.{Lists};
 ghost use Rattle.polite_place.specs.Seats.{Seated, seats};
 
 use tn_base::laws::law_threads;
@@ -21,6 +22,15 @@ pub fn law_seats(shape: &Shape)
         Seated shape.now per_thread (seats shape.now outs) }
     ensures vertices { (graph : Graph) → length (outs_of graph) ≡ length graph.vertices }
     ensures edges { (graph : Graph) → IsGraph graph → AllListsBelow (length (outs_of graph)) (outs_of graph) }
+{
+    let _numbers = shape.numbers();
+    law_threads(shape);
+}
+
+/// A roster and the seats say the same: each vertex is listed at its seat, each listed vertex has its seat there, and the vertices
+/// of a thread weigh what the vertices with seats there weigh.
+pub fn law_roster(shape: &Shape)
+    ensures { (outs : List (List ℕ)) → AllListsBelow (length outs) outs → Lists shape.now outs }
 {
     let _numbers = shape.numbers();
     law_threads(shape);
