@@ -1,0 +1,4 @@
+pub mod ByIndex
+pub mod Kept
+pub mod Numbers
+pub mod Pairing
