@@ -135,6 +135,25 @@ rises_by low (x ∷ xs) o above same = (above x (inl refl), rises_by x.entry.sta
     later y h (inl l) = l
     later y h (inr e) = let p = same x y (inl refl) (inr h) e.0 in let l = e.1 in absurd (omega arith)
 
+module _ (js : List (List Entry)) (fine : ArePaired js) where
+  pub own_at : (i : ℕ) (e : Entry) → IsIn e (entries_at js i) → IsOwn (length js) i (pair_of (length js) e.event)
+  own_at i e h = entry_from_all (λ e. IsOwn (length js) i (pair_of (length js) e.event)) (entries_at js i) e (fine.own i) h
+
+  -- an entry on a pair stands in both journals
+  pub shared : (i : ℕ) (e : Entry) (p : Pair) → IsIn e (entries_at js i) → pair_of (length js) e.event ≡ Some p → IsIn e (entries_at js p.low) × IsIn e (entries_at js p.high)
+  shared i e p h is =
+      let test : is_pair (pair_of (length js) e.event) p.low p.high ≡ true = rw is (both (eqb p.low p.low) (eqb p.high p.high) (eqb_self p.low) (eqb_self p.high)) in
+      let q : Entry → Bool = λ x. is_pair (pair_of (length js) x.event) p.low p.high in
+      let low_to : IsIn e (entries_at js p.low) → IsIn e (entries_at js p.high) = λ k.
+      entry_from_filter q (entries_at js p.high) e (subst (IsIn e) (fine.paired p.low p.high) (entry_into_filter q (entries_at js p.low) e k test)) in
+      let high_to : IsIn e (entries_at js p.high) → IsIn e (entries_at js p.low) = λ k.
+      entry_from_filter q (entries_at js p.low) e (subst (IsIn e) (sym (fine.paired p.low p.high)) (entry_into_filter q (entries_at js p.high) e k test)) in
+      let own : IsOwn (length js) i (Some p) = rw is at (own_at i e h) in
+      elim own.2 [
+        | inl l ↦ let k : IsIn e (entries_at js p.low) = rw l h in (k, low_to k)
+        | inr r ↦ let k : IsIn e (entries_at js p.high) = rw r h in (high_to k, k)
+      ]
+
 module _ (js : List (List Entry)) (fine : ArePaired js) (rises : (i : ℕ) → Rises 0 (entries_at js i)) (all : List Placed) (order : IsOrder js all) where
   -- what stands in the order stands in its journal, and the other way round
   in_journal : (x : Placed) → Among x all → IsIn x.entry (entries_at js x.part)
@@ -152,24 +171,6 @@ module _ (js : List (List Entry)) (fine : ArePaired js) (rises : (i : ℕ) → R
       let f = from_filter (λ y. y.part == i) all k.0 k.1 in
       record { x = k.0; there = f.0; part = eqb_true k.0.part i f.1; entry = sym k.2 }
 
-  own_at : (i : ℕ) (e : Entry) → IsIn e (entries_at js i) → IsOwn (length js) i (pair_of (length js) e.event)
-  own_at i e h = entry_from_all (λ e. IsOwn (length js) i (pair_of (length js) e.event)) (entries_at js i) e (fine.own i) h
-
-  -- an entry on a pair stands in both journals
-  shared : (i : ℕ) (e : Entry) (p : Pair) → IsIn e (entries_at js i) → pair_of (length js) e.event ≡ Some p → IsIn e (entries_at js p.low) × IsIn e (entries_at js p.high)
-  shared i e p h is =
-      let test : is_pair (pair_of (length js) e.event) p.low p.high ≡ true = rw is (both (eqb p.low p.low) (eqb p.high p.high) (eqb_self p.low) (eqb_self p.high)) in
-      let q : Entry → Bool = λ x. is_pair (pair_of (length js) x.event) p.low p.high in
-      let low_to : IsIn e (entries_at js p.low) → IsIn e (entries_at js p.high) = λ k.
-      entry_from_filter q (entries_at js p.high) e (subst (IsIn e) (fine.paired p.low p.high) (entry_into_filter q (entries_at js p.low) e k test)) in
-      let high_to : IsIn e (entries_at js p.high) → IsIn e (entries_at js p.low) = λ k.
-      entry_from_filter q (entries_at js p.low) e (subst (IsIn e) (sym (fine.paired p.low p.high)) (entry_into_filter q (entries_at js p.high) e k test)) in
-      let own : IsOwn (length js) i (Some p) = rw is at (own_at i e h) in
-      elim own.2 [
-        | inl l ↦ let k : IsIn e (entries_at js p.low) = rw l h in (k, low_to k)
-        | inr r ↦ let k : IsIn e (entries_at js p.high) = rw r h in (high_to k, k)
-      ]
-
   -- an entry that stands on part i in the merge is one of its journal
   on_to_journal : (i : ℕ) (x : Placed) → Among x all → least_in (length js) x ≡ true → on_in (length js) i x ≡ true → IsIn x.entry (entries_at js i)
   on_to_journal i x h l t = by_pair (pair_of (length js) x.entry.event) refl l t
@@ -177,7 +178,7 @@ module _ (js : List (List Entry)) (fine : ArePaired js) (rises : (i : ℕ) → R
       by_pair : (o : Option Pair) → pair_of (length js) x.entry.event ≡ o → is_least o x.part ≡ true → is_on o x.part i ≡ true → IsIn x.entry (entries_at js i)
       by_pair None is l t = rw (← eqb_true x.part i t) (in_journal x h)
       by_pair (Some p) is l t =
-          let s = shared x.part x.entry p (in_journal x h) is in
+          let s = shared js fine x.part x.entry p (in_journal x h) is in
           or_cases (eqb p.low i) (eqb p.high i) t
           (λ e. rw (← eqb_true p.low i e) s.0)
           (λ e. rw (← eqb_true p.high i e) s.1)
@@ -205,9 +206,9 @@ module _ (js : List (List Entry)) (fine : ArePaired js) (rises : (i : ℕ) → R
             on = ap (λ o. is_on o f.x.part i) p ∙ rw f.part (eqb_self i);
           }
       by_pair (Some q) is =
-          let f = in_all q.low e (shared i e q h is).0 in
+          let f = in_all q.low e (shared js fine i e q h is).0 in
           let p : pair_of (length js) f.x.entry.event ≡ Some q = rw f.entry is in
-          let own : IsOwn (length js) i (Some q) = rw is at (own_at i e h) in
+          let own : IsOwn (length js) i (Some q) = rw is at (own_at js fine i e h) in
           let here : (q.low == i || q.high == i) ≡ true = elim own.2 [
             | inl l ↦ or_left (eqb q.low i) (eqb q.high i) (rw l (eqb_self i))
             | inr r ↦ or_right (eqb q.low i) (eqb q.high i) (rw r (eqb_self i))

@@ -2,6 +2,7 @@
 use Rattle.std.proofs.Common.{◌≡◌, ℕ, ◌<◌, ◌⊎◌, inl, inr, List, [], ◌∷◌, ◌++◌, refl, sym, ap, arith}
 use Rattle.tn_stamp.specs.declared.entry.Entry.{Entry}
 use Rattle.tn_stamp.specs.Journals.{Rises, last_stamp}
+pub use Rattle.tn_stamp.specs.Standing.{IsIn}
 
 pub Rises-push : (low : ℕ) (es : List Entry) (e : Entry) → Rises low es → last_stamp low es < e.stamp → Rises low (es ++ e ∷ [])
 Rises-push low [] e r h = (h, tt)
@@ -10,11 +11,6 @@ Rises-push low (x ∷ es) e r h = (r.0, Rises-push x.stamp es e r.1 h)
 pub last_stamp-push : (low : ℕ) (es : List Entry) (e : Entry) → last_stamp low (es ++ e ∷ []) ≡ e.stamp
 last_stamp-push low [] e = refl
 last_stamp-push low (x ∷ es) e = last_stamp-push x.stamp es e
-
--- an entry stands in a list
-abbrev pub IsIn : Entry → List Entry → Type 0
-IsIn e [] = ⊥
-IsIn e (x ∷ xs) = (e ≡ x) ⊎ IsIn e xs
 
 -- in a rising list each entry is above low
 pub above_low : (low : ℕ) (es : List Entry) (x : Entry) → Rises low es → IsIn x es → low < x.stamp

@@ -5,5 +5,6 @@
 pub mod entry;
 pub mod item;
 pub mod journal;
+pub mod laws;
 pub mod merge;
 mod short;
