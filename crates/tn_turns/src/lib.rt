@@ -8,6 +8,8 @@ mod opening;
 mod rule;
 mod seats;
 mod slot;
+#[cfg(test)]
+mod turn_tests;
 mod turns;
 mod view;
 
