@@ -29,7 +29,7 @@ SECTIONS {
 		*(.data .data.* .sdata .sdata.*)
 	} > private :private
 
-	.bss (NOLOAD) : {
+	.bss : {
 		*(.sbss .sbss.* .bss .bss.* COMMON)
 	} > private :private
 
