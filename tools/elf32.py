@@ -78,7 +78,8 @@ class _Reader:
 
     def bytes(self, offset, size, what):
         if offset + size > len(self.data):
-            raise ElfError(f"the file is truncated: it has {len(self.data)} bytes, and its {what} ends at byte {offset + size}")
+            end = offset + size
+            raise ElfError(f"the file is truncated: it has {len(self.data)} bytes, and its {what} ends at byte {end}")
         return self.data[offset : offset + size]
 
     def unpack(self, form, offset, what):
