@@ -140,6 +140,7 @@ TRACES = [
     ("no part", "depart 1 99", "no event of this machine"),
     ("another link", "depart 0 3", "no event of this machine"),
     ("no router", "route 1", "no event of this machine"),
+    ("a refused job", "refused 3 NoCode", "the job was refused: refused 3 NoCode"),
     ("an event after the report", "done\nturn 0 1", "line 2 of the trace is no event"),
 ]
 

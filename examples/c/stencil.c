@@ -1,8 +1,8 @@
 /*
- * A stencil over a mesh. Each thread has a block of cells, with a rim of the neighbours' cells. In a step each thread sends the
- * four edges of its block, and is idle until the whole machine is at rest: then all edges have come. Then each cell
- * becomes the mean of itself and its four neighbours. Cells outside the mesh are 0. Each thread ends with the sum of its
- * cells, each times a weight.
+ * A stencil over a mesh. Each thread has a block of cells, with a rim of the neighbours' cells. In a step each thread
+ * sends the four edges of its block, and is idle until the whole machine is at rest: then all edges have come. Then each
+ * cell becomes the mean of itself and its four neighbours. Cells outside the mesh are 0. Each thread ends with the sum of
+ * its cells, each times a weight.
  *
  * Build: mkjob --shape 2 1 2 2 1 4 stencil.c -o stencil.job
  */
