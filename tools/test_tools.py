@@ -11,6 +11,7 @@ from dataclasses import dataclass, field, replace
 from importlib.machinery import SourceFileLoader
 from importlib.util import module_from_spec, spec_from_loader
 from pathlib import Path
+from unittest import mock
 
 import elf32
 import rv32im
@@ -208,6 +209,13 @@ class MakesJobs(ToolCase):
                 self.assertIn(words, done.stderr)
                 self.assertTrue(done.stderr.startswith("mkjob: "))
                 self.assertEqual((done.stdout, done.status, done.stderr.count("\n")), ("", 1, 1))
+
+    def test_no_compiler(self):
+        self.write("program.c", "int main(void) { return 0; }")
+        with mock.patch("shutil.which", return_value=None):
+            done = self.call(mkjob, f"program.c {ONE}")
+        self.assertIn("riscv64-unknown-elf-gcc is not here: install Debian's package", done.stderr)
+        self.assertEqual((done.stdout, done.status), ("", 1))
 
     def test_most_code(self):
         done = self.make(Image(words=[NOP] * 16384), ONE)
