@@ -121,7 +121,7 @@ def _symbols(reader, rows):
         names = reader.bytes(rows[link][4], rows[link][5], "names of symbols")
         for row in SYMBOL.iter_unpack(reader.bytes(offset, size - size % SYMBOL.size, "table of symbols")):
             name, value, length, info, _, section = row
-            text = names[name:].split(b"\0", 1)[0].decode("ascii", "replace")
+            text = names[name:].split(b"\0", 1)[0].decode("latin-1")
             if text and section != UNDEFINED:
                 symbols[text] = Symbol(text, value, length, info & 15 == SYMBOL_FUNCTION)
     return symbols
