@@ -30,9 +30,9 @@ int main(void)
 
 	*slot = value_of(tinsel_hart_id());
 	while (sent < TILES || received < TILES * THREADS) {
+		tinsel_wait_until(sent < TILES ? TINSEL_CAN_SEND | TINSEL_CAN_RECV : TINSEL_CAN_RECV);
 		if (sent < TILES && tinsel_can_send())
 			tinsel_multicast(tile_at(sent++), all);
-		tinsel_wait_until(sent < TILES ? TINSEL_CAN_SEND | TINSEL_CAN_RECV : TINSEL_CAN_RECV);
 		while (tinsel_can_recv()) {
 			const uint32_t *message = tinsel_recv();
 
