@@ -1,7 +1,7 @@
 #!/usr/bin/env bash
 # Makes the calls of examples/cases.txt, and compares what each call prints, its exit status and its line on standard error with the
 # case's line. Runs ./tinsel, or the program that is given as a word. Fails if a call differs. A case that needs what this machine
-# does not have is skipped.
+# does not have is skipped. Then tools/run_programs.sh runs the programs in C.
 set -u
 top=$(cd "$(dirname "${BASH_SOURCE[0]}")/.." && pwd)
 program=$(realpath "${1:-$top/tinsel}")
@@ -63,4 +63,4 @@ for job in *.job; do
   grep -q "| $job |" cases.txt || { echo "$job is in no case"; failed=$((failed + 1)); }
 done
 echo "examples: $passed passed, $failed failed, $skipped skipped"
-[ "$failed" = 0 ] && [ "$passed" != 0 ]
+"$top/tools/run_programs.sh" "$program" && [ "$failed" = 0 ] && [ "$passed" != 0 ]
