@@ -44,6 +44,7 @@ use Rattle.tn_letters.proofs.EventSteps.{HoldsIn, HoldsOf, event_each}
 use Rattle.tn_letters.proofs.GoodParts.{event_good, walk_good}
 use Rattle.tn_letters.proofs.Lift.{Good}
 use Rattle.tn_letters.proofs.Meaning.{event_arrives}
+use Rattle.tn_letters.proofs.Over.{announced_over}
 use Rattle.tn_letters.proofs.Settling.{released_before, released_behind}
 use Rattle.tn_letters.proofs.Silent.{NoRelease, settled_now}
 use Rattle.tn_letters.proofs.Starts.{good_start}
@@ -274,7 +275,7 @@ answers_at_rest start history s =
       rests = λ n.
           let good = walk_good n.before start n.rest g q n.walk in
           let quiet = (walk_quiet n.before start n.rest g.limits q n.walk).0 in
-          (resting n.rest good (rest_before n.rest n.said good quiet n.step), told_votes n.rest n.said good quiet n.step);
+          record { resting = resting n.rest good (rest_before n.rest n.said good quiet n.step); value = told_votes n.rest n.said good quiet n.step; over = announced_over n.rest n.said good quiet n.step };
       told = λ n middle more w new t k split walk turn not there idle. idle_answered start n.rest n.said w new n.before middle t k s n.walk there idle n.step walk not turn;
       because = λ before later w a value split walk there is.
           let same = answer_settled w a value is in

@@ -23,6 +23,7 @@ pub mod Lift
 pub mod Links
 pub mod Meaning
 pub mod Moves
+pub mod Over
 pub mod PartKinds
 pub mod Receivers
 pub mod Routers

@@ -1,18 +1,21 @@
 -- What an idle that ends with 1 or 2 tells: the whole machine was at rest when the detector announced it.
-use Rattle.std.specs.Prelude.{ℕ, ◌≡◌, ◌++◌, true, IsTrue, List, [], ◌∷◌, Some, if◌then◌else◌}
+use Rattle.std.specs.Prelude.{◌↔◌, ℕ, ◌≡◌, ◌++◌, true, IsTrue, List, [], ◌∷◌, Some, if◌then◌else◌}
 use Rattle.std.specs.List.{AllByRecursion, list_all}
 use Rattle.tn_base.specs.declared.event.Event.{Event}
 use Rattle.tn_base.specs.declared.event.Event.TheVariants as event
+use Rattle.tn_base.specs.declared.event.Outcome.TheVariants as outcome
 use Rattle.tn_base.specs.declared.ids.ThreadId.{ThreadId}
 use Rattle.tn_base.specs.Address.{has_thread}
 use Rattle.tn_detect.specs.Notes.{value_of}
 use Rattle.tn_host.specs.Script.{first_item, is_no_send}
+use Rattle.tn_rows.specs.Ends.{final_of}
 use Rattle.tn_rows.specs.Events.{happened}
 use Rattle.tn_rows.specs.Runs.{Walk}
 use Rattle.tn_rows.specs.WorldView.{WorldView}
 use Rattle.tn_thread.specs.declared.state.ThreadState.TheVariants as state
 use Rattle.tn_thread.specs.declared.thread.Thread.{Thread}
 use Rattle.tn_thread.specs.Step.{answered, is_idle}
+use Rattle.tn_tile.specs.Receivers.{is_dead}
 use Rattle.tn_tile.specs.Still.{does_nothing, votes_for}
 use Rattle.tn_letters.specs.Law.{IsStart}
 use Rattle.tn_letters.specs.Machine.{addresses}
@@ -45,9 +48,20 @@ pub record Announcement (start : WorldView) (history : List Event) : Type 0 wher
 abbrev pub told_value : WorldView → ℕ
 told_value said = value_of (detector_on said).answer
 
--- each announcement of a history comes at rest, and tells what the votes give
+-- a machine is over: every thread has ended, and the host's script is at its end
+pub record IsOver (w : WorldView) : Type 0 where
+  pub threads : (a : ℕ) → IsTrue (has_thread w.shape a) → is_dead (thread_of w a).state ≡ true
+  pub script : (host_on w).script ≡ []
+
+-- an announcement comes at rest, tells what the votes give, and is the last one if and only if the machine is over
+pub record ComesAtRest (rest said : WorldView) : Type 0 where
+  pub resting : IsResting rest
+  pub value : told_value said ≡ voted rest
+  pub over : (final_of event.Announce said ≡ Some outcome.Done) ↔ IsOver rest
+
+-- each announcement of a history comes at rest
 abbrev pub AnnouncesAtRest : WorldView → List Event → Type 0
-AnnouncesAtRest start history = (n : Announcement start history) → IsResting n.rest × (told_value n.said ≡ voted n.rest)
+AnnouncesAtRest start history = (n : Announcement start history) → ComesAtRest n.rest n.said
 
 -- a thread that was idle at an announcement has the announced value when it makes its next turn, and did nothing before
 abbrev pub TellsIdleThreads : WorldView → List Event → Type 0

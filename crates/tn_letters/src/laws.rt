@@ -23,8 +23,9 @@ pub fn law_answers()
     ensures machines { EveryIdleThreadIsAnswered }
 {}
 
-/// Whatever events happen to a machine from its start: each announcement comes at rest and tells what the votes give, each thread that
-/// was idle there has the announced value when it makes its next turn, and no thread has another answer.
+/// Whatever events happen to a machine from its start, each announcement comes at rest and tells what the votes give. An announcement
+/// ends the run if and only if every thread has ended and the host's script is at its end. Each thread that was idle at an announcement
+/// has the announced value when it makes its next turn, and no thread has another answer.
 pub fn law_rest()
     ensures { EveryHistoryAnswersAtRest }
 {}
