@@ -1,12 +1,11 @@
 -- Which parts of a machine are visited parts, and which are links.
-use Rattle.std.proofs.Common.{ℕ, ◌≡◌, ◌≤◌, ◌<◌, ◌+◌, ◌-◌, ◌/◌, ◌*◌, ◌%◌, ◌∷◌, ◌++◌, ◌==◌, [], Bool, true, false, List, get_or, length, length-append, map, nat_lt, zero, suc, arith, inl, inr, refl, sym, ap, subst, ◌∙◌}
+use Rattle.std.proofs.Common.{ℕ, ◌≡◌, ◌≤◌, ◌<◌, ◌+◌, ◌-◌, ◌/◌, ◌*◌, ◌%◌, ◌∷◌, ◌++◌, ◌==◌, [], Bool, true, false, List, get_or, nat_lt, zero, suc, arith, inl, inr, sym, subst}
 use Rattle.std.specs.List.{AllByRecursion, flat_map, range_with_len}
 use Rattle.std.proofs.lemmas.Bool.{cases_lt}
-use Rattle.std.proofs.lemmas.List.{get_or-append_right}
 use Rattle.tn_base.specs.declared.part.Kind.{Kind}
 use Rattle.tn_base.specs.declared.part.Kind.TheVariants as kind
 use Rattle.tn_base.specs.declared.shape.ShapeNumbers.{ShapeNumbers}
-use Rattle.tn_base.specs.Parts.{all_router_links, all_tile_links, board_at, board_count, board_tiles, from_host_links, from_router_links, from_routers, from_tile_links, from_tiles, kind_of, link, only_if, part_count, router_links, router_part, tile_at, tile_count, tile_links, tile_part, visited}
+use Rattle.tn_base.specs.Parts.{all_router_links, all_tile_links, board_at, board_count, board_tiles, from_host_links, from_router_links, from_routers, from_tile_links, kind_of, link, only_if, router_links, router_part, tile_at, tile_count, tile_links, tile_part, visited}
 use Rattle.tn_base.proofs.Listing.{behind_at, front_at}
 
 -- a part is the host, a tile or a router; and it is none of these
@@ -67,16 +66,16 @@ behind_routers n =
     all_append (all_tile_links n) (from_router_links n) (all_flat (tile_links n) 0 (tile_count n) (tile_links_are n))
     (all_append (all_router_links n) (from_host_links n) (all_flat (router_links n) 0 (board_count n) (router_links_are n)) (tt, (tt, (tt, tt))))
 
-tile_at_part : (n : ShapeNumbers) (i : ℕ) → i < tile_count n → kind.Tile (record { 0 = tile_at n i }) ≡ kind_of n (suc i)
+pub tile_at_part : (n : ShapeNumbers) (i : ℕ) → i < tile_count n → kind.Tile (record { 0 = tile_at n i }) ≡ kind_of n (suc i)
 tile_at_part n i h = sym (front_at (λ i. kind.Tile (record { 0 = tile_at n i })) (tile_count n) i (from_routers n) kind.Detector h)
 
-past_tiles : (n : ShapeNumbers) (i : ℕ) → tile_count n ≤ i → get_or (from_routers n) (i - tile_count n) kind.Detector ≡ kind_of n (suc i)
+pub past_tiles : (n : ShapeNumbers) (i : ℕ) → tile_count n ≤ i → get_or (from_routers n) (i - tile_count n) kind.Detector ≡ kind_of n (suc i)
 past_tiles n i h = sym (behind_at (λ i. kind.Tile (record { 0 = tile_at n i })) (tile_count n) i (from_routers n) kind.Detector h)
 
-router_at : (n : ShapeNumbers) (i : ℕ) → i < board_count n → kind.Router (board_at n i) ≡ get_or (from_routers n) i kind.Detector
+pub router_at : (n : ShapeNumbers) (i : ℕ) → i < board_count n → kind.Router (board_at n i) ≡ get_or (from_routers n) i kind.Detector
 router_at n i h = sym (front_at (λ i. kind.Router (board_at n i)) (board_count n) i (from_tile_links n) kind.Detector h)
 
-past_routers : (n : ShapeNumbers) (i : ℕ) → board_count n ≤ i → IsBehind (get_or (from_routers n) i kind.Detector)
+pub past_routers : (n : ShapeNumbers) (i : ℕ) → board_count n ≤ i → IsBehind (get_or (from_routers n) i kind.Detector)
 past_routers n i h = subst IsBehind (sym (behind_at (λ i. kind.Router (board_at n i)) (board_count n) i (from_tile_links n) kind.Detector h)) (all_at (from_tile_links n) (i - board_count n) (behind_routers n))
 
 -- the parts below the number of visited parts are these
@@ -93,25 +92,3 @@ behind_kind n zero h = absurd (omega arith)
 behind_kind n (suc i) h =
     let past : tile_count n ≤ i = omega arith in
     subst IsBehind (past_tiles n i past) (past_routers n (i - tile_count n) (omega arith))
-
--- the last part is the detector
-from_end : (xs ys : List Kind) → 1 ≤ length ys → get_or (xs ++ ys) (length (xs ++ ys) - 1) kind.Detector ≡ get_or ys (length ys - 1) kind.Detector
-from_end xs ys h =
-    let long = length-append xs ys in
-    get_or-append_right xs ys (length xs) (length (xs ++ ys) - 1) kind.Detector refl (omega (arith, long, h))
-    ∙ ap (λ k. get_or ys k kind.Detector) (omega (arith, long, h))
-
-some_in : (xs ys : List Kind) → 1 ≤ length ys → 1 ≤ length (xs ++ ys)
-some_in xs ys h = omega (arith, length-append xs ys, h)
-
-pub detector_last : (n : ShapeNumbers) → kind_of n (part_count n - 1) ≡ kind.Detector
-detector_last n =
-    let routers : 1 ≤ length (from_router_links n) = some_in (all_router_links n) (from_host_links n) (omega arith) in
-    let tiles : 1 ≤ length (from_tile_links n) = some_in (all_tile_links n) (from_router_links n) routers in
-    let boards : 1 ≤ length (from_routers n) = some_in _ (from_tile_links n) tiles in
-    let all : 1 ≤ length (from_tiles n) = some_in _ (from_routers n) boards in
-    from_end (kind.Host ∷ []) (from_tiles n) all
-    ∙ from_end (map (λ i. kind.Tile (record { 0 = tile_at n i })) (range_with_len 0 (tile_count n))) (from_routers n) boards
-    ∙ from_end (map (λ i. kind.Router (board_at n i)) (range_with_len 0 (board_count n))) (from_tile_links n) tiles
-    ∙ from_end (all_tile_links n) (from_router_links n) routers
-    ∙ from_end (all_router_links n) (from_host_links n) (omega arith)
