@@ -1,7 +1,7 @@
 -- Entries kept short, their crossings in a list beside them.
 use Rattle.std.proofs.Common.{◌≡◌, ℕ, zero, suc, ◌-◌, ◌^◌, ◌<◌, ◌≤◌, inl, inr, List, [], ◌∷◌, ◌++◌, length, get_or, slice_get, Some, refl, sym, ap, ◌∙◌, subst, arith}
 use Rattle.std.specs.List.{All}
-use Rattle.std.proofs.lemmas.List.{get_or_append_left, get_or_past, length-append, length-map, map-append}
+use Rattle.std.proofs.lemmas.List.{get_or_append_left, append-nil, get_or_past, length-append, length-map, map-append}
 use Rattle.std.proofs.lemmas.List.Elements.{All-head, All-tail, All-push, All-weaker}
 use Rattle.tn_base.specs.declared.event.Event.{Event}
 use Rattle.tn_stamp.specs.declared.entry.Crossing.{Crossing}
@@ -53,6 +53,10 @@ module _ (old new : List Crossing) (es : List ShortEntry) (stamp : ℕ) (event :
 
   pub last_kept : last_stamp 0 (entries_with new (es ++ record { stamp = stamp; event = event; place = place } ∷ [])) ≡ stamp
   last_kept = ap (last_stamp 0) appended ∙ last_stamp-push 0 (entries_with old es) (record { stamp = stamp; event = event; crossing = c })
+
+-- no crossing
+pub keeps_none : (cs : List Crossing) → length cs ≤ 2 ^ 32 - 1 → Keeps cs crossing.None (2 ^ 32 - 1) cs
+keeps_none cs few = record { there = get_or_past cs (2 ^ 32 - 1) crossing.None few; fits = inr refl; more = []; grown = sym (append-nil cs); few = omega arith }
 
 pub within : (cs : List Crossing) (es : List ShortEntry) (i : ℕ) → i < length (entries_with cs es) → i < length es
 within cs es i h = let l = length-map es (entry_with cs) in omega arith

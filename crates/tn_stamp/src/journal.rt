@@ -2,7 +2,7 @@
 
 ghost use Rattle.std.specs.Prelude.{◌≡◌, ◌<◌, ◌≤◌, ◌+◌, ◌-◌, ◌^◌, ◌++◌, ◌∷◌, [], length, nat_lt, OnOk};
 ghost use Rattle.std.specs.Vec.{vec_capacity};
-ghost use Rattle.tn_stamp.specs.Journals.{AtEntry, Keeps, Rises, double_entry, last_stamp};
+ghost use Rattle.tn_stamp.specs.Journals.{AtEntry, Keeps, Rises, double_entry, last_stamp, single_entry};
 
 use crate::entry::{Crossing, Entry};
 use crate::short::{NOWHERE, ShortEntry};
@@ -109,6 +109,21 @@ impl Journal {
             stamp,
             event,
             place,
+        });
+    }
+
+    /// Adds an event on this part alone. Its stamp is one above the last stamp.
+    pub fn append_single(&mut self, event: Event)
+        requires room { 0 < self.old.room }
+        requires early { last_stamp 0 self.old.entries < 2 ^ 64 - 1 }
+        ensures entries { self.new.entries ≡ self.old.entries ++ single_entry self.old.entries event ∷ [] }
+        ensures room { self.old.room ≤ self.new.room + 1 }
+    {
+        self.last += 1;
+        self.entries.push_reserved(ShortEntry {
+            stamp: self.last,
+            event,
+            place: NOWHERE,
         });
     }
 

@@ -93,6 +93,10 @@ fn answers(
     [same, next, last, same_last]
 }
 
+fn is_send<T: Send>(_value: &T) {}
+
+fn is_sync<T: Sync>(_value: &T) {}
+
 #[test]
 fn a_turn_is_with_one_seat(rt: HostRuntime) -> Result<(), Fail> {
     let items = blanks(rt.alloc())?;
@@ -106,6 +110,8 @@ fn a_turn_is_with_one_seat(rt: HostRuntime) -> Result<(), Fail> {
     };
     let mut first = turns.seat();
     let mut second = turns.seat();
+    is_send(&first);
+    is_sync(turns.board());
     let got = answers(turns.board(), &mut first, &mut second);
     seats.push_reserved(first);
     seats.push_reserved(second);
