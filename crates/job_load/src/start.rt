@@ -25,7 +25,7 @@ use tn_link::plain::PlainLink;
 use tn_router::router::Router;
 use tn_thread::thread::Thread;
 use tn_tile::tile::Tile;
-use tn_world::part::Part;
+use tn_part::part::Part;
 use tn_world::world::World;
 
 /// The threads of a tile over their images.

@@ -4,5 +4,6 @@ pub mod Events
 pub mod Listed
 pub mod PartView
 pub mod Places
+pub mod Roles
 pub mod Runs
 pub mod WorldView

@@ -11,7 +11,7 @@ use tn_text::print::{push_decimal, push_hex_word};
 use tn_thread::state::ThreadState;
 use tn_tile::tile::Tile;
 use tn_trace::host::push_hosts;
-use tn_world::part::Part;
+use tn_part::part::Part;
 use tn_world::world::World;
 
 /// The printed name of a trap.

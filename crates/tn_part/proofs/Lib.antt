@@ -1,0 +1,4 @@
+pub mod Crossings
+pub mod Sites
+pub mod Steps
+pub mod Visits
