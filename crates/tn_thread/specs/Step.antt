@@ -297,4 +297,6 @@ started shape id image firmware = record {
   mask_high = 0;
   mem = memory_of shape.mem image;
   out = record { bytes = replicate (slot_bytes shape) 0; last = first_last firmware };
+  hand = 0;
+  switch = None;
 }
