@@ -79,11 +79,6 @@ dispatch_fits s seen t =
 some_of : {A : Type 0} (x y : A) → Some x ≡ Some y → x ≡ y
 some_of x y e = cc e
 
--- a thread is at the firmware's address only where it has a softswitch
-pub at_some : (b : Bool) (o : Option SwitchModel) → is_some (cond b o None) ≡ true → is_some o ≡ true
-at_some true o e = e
-at_some false o e = cc e
-
 -- a dispatch: the softswitch was asked, and the thread did what it answered
 pub dispatch_is : (b : Bool) (o new : Option SwitchModel) (asked : Action) (seen : Sight) (t : Thread) (r : Stepped) → new ≡ option_map (λ (s : SwitchModel). (dispatched (view_of seen t) s).switch) o
     → Some asked ≡ option_map (λ (s : SwitchModel). (dispatched (view_of seen t) s).action) o → r ≡ does asked seen (record t { switch = new }) → IfSome (cond b o None) (λ (s : SwitchModel). r ≡ dispatch s seen t)

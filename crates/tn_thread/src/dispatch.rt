@@ -27,7 +27,9 @@ impl Thread {
     }
 
     /// One dispatch of a thread at the firmware's address: its softswitch takes what a handler returned, and the thread does
-    /// what the softswitch answers. It hands on what the thread asks without the message of a send.
+    /// what the softswitch answers. It hands on what the thread asks without the message of a send. A dispatch is a function of its
+    /// own also in the built program, so that the loop of steps keeps the processor's registers.
+    #[inline(never)]
     pub fn dispatch<V: View>(&mut self, view: &V) -> Ask
         requires there { IsSome (at_firmware self.old) }
         requires fuel { self.old.steps < self.old.shape.fuel }
