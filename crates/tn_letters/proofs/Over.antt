@@ -20,7 +20,7 @@ use Rattle.tn_host.specs.Script.{first_item}
 use Rattle.tn_quiet.specs.Law.{IsQuietWorld}
 use Rattle.tn_quiet.specs.Machine.{rest_of}
 use Rattle.tn_quiet.proofs.Machines.{at_last}
-use Rattle.tn_quiet.proofs.PartKinds.{past_tiles, router_at, tile_at_part}
+use Rattle.tn_rows.proofs.PartKinds.{past_tiles, router_at, tile_at_part}
 use Rattle.tn_rest.specs.declared.facts.Facts.{Facts}
 use Rattle.tn_rest.specs.Quiet.{notes_of}
 use Rattle.tn_rows.specs.Ends.{done_on, done_with, final_of}

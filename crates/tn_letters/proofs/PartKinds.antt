@@ -6,7 +6,7 @@ use Rattle.tn_base.specs.declared.ids.TileId.{TileId}
 use Rattle.tn_base.specs.declared.part.Kind.TheVariants as kind
 use Rattle.tn_base.specs.declared.shape.ShapeNumbers.{ShapeNumbers}
 use Rattle.tn_base.specs.Parts.{board_at, board_count, from_routers, kind_of, router_part, tile_at, tile_count, tile_part}
-use Rattle.tn_quiet.proofs.PartKinds.{IsBehind, past_routers, past_tiles, router_at, tile_at_part}
+use Rattle.tn_rows.proofs.PartKinds.{IsBehind, past_routers, past_tiles, router_at, tile_at_part}
 
 -- the number of a tile that is a part
 pub record TilePart (n : ShapeNumbers) (p : ℕ) (tile : TileId) : Type 0 where

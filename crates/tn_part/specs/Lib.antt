@@ -1,4 +1,6 @@
+pub mod Doing
 pub mod Joint
+pub mod Meeting
 pub mod Sites
 pub mod Turning
 pub mod Views

@@ -4,10 +4,12 @@ ghost use Rattle.std.specs.Prelude.{◌≡◌, IfOk, MatchOption, None, Some, if
 ghost use Rattle.tn_base.specs.declared.part.Kind.TheVariants as kind;
 ghost use Rattle.tn_base.specs.Parts.{kind_of};
 ghost use Rattle.tn_rows.specs.Places.{leads_from, leads_to, link_side, link_way, side_between, way_between};
+ghost use Rattle.tn_part.specs.Meeting.{port_of};
 ghost use Rattle.tn_part.specs.Sites.{site_of, sites};
 
 use std::alloc::{AllocError, Global};
 use std::marker::Model;
+use tn_base::event::Event;
 use tn_base::ids::{PartId, ThreadId};
 use tn_base::message::Dest;
 use tn_base::part::Kind;
@@ -107,6 +109,31 @@ impl Sites {
         match site.kind {
             Kind::Link { to, .. } if to == p => Some(site.side),
             _ => None,
+        }
+    }
+}
+
+impl Sites {
+    /// The port at which the parts of an event on two parts are joined, if the machine has two such parts.
+    pub fn port_of(&self, e: &Event) -> Option<Port>
+        ensures { result ≡ port_of self.now e.now }
+    {
+        match *e {
+            Event::Depart(p, l) => self.way_from(p, l),
+            Event::Arrive(l, p) => self.side_onto(l, p),
+            Event::HostPut | Event::HostTake => Some(Port::Here),
+            Event::Report(p) | Event::Confirm(p) | Event::Release(p) | Event::Go(p) => {
+                if p.0 < self.shape.visited() {
+                    Some(Port::Here)
+                } else {
+                    None
+                }
+            }
+            Event::Turn(_, _)
+            | Event::Deliver(_)
+            | Event::Route(_)
+            | Event::Begin
+            | Event::Announce => None,
         }
     }
 }

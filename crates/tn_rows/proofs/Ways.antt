@@ -27,14 +27,14 @@ pub record Joins (k : Kind) (from onto : ℕ) : Type 0 where
 equal : (a b : ℕ) → (a == b) ≡ true → a ≡ b
 equal a b e = eqb-true a b e
 
-leads_by : (k : Kind) (p : ℕ) → leads_from p k ≡ true → (onto : ℕ) × Joins k p onto
+pub leads_by : (k : Kind) (p : ℕ) → leads_from p k ≡ true → (onto : ℕ) × Joins k p onto
 leads_by kind.Host p e = cc e
 leads_by (kind.Tile tile) p e = cc e
 leads_by (kind.Router board) p e = cc e
 leads_by (kind.Link from onto) p e = (onto.0, record { low = from; high = onto; is = refl; from_is = equal from.0 p e; onto_is = refl })
 leads_by kind.Detector p e = cc e
 
-leads_on : (k : Kind) (p : ℕ) → leads_to p k ≡ true → (from : ℕ) × Joins k from p
+pub leads_on : (k : Kind) (p : ℕ) → leads_to p k ≡ true → (from : ℕ) × Joins k from p
 leads_on kind.Host p e = cc e
 leads_on (kind.Tile tile) p e = cc e
 leads_on (kind.Router board) p e = cc e
@@ -45,7 +45,7 @@ leads_on kind.Detector p e = cc e
 abbrev pub Behind : ShapeNumbers → Type 0
 Behind n = (l : ℕ) (from onto : PartId) → kind_of n l ≡ kind.Link from onto → JoinsVisited n l from.0 onto.0
 
-fits_link : (n : ShapeNumbers) (k : Kind) (from onto : PartId) (part : PartView) → k ≡ kind.Link from onto → FitsKind n k part → IsLink part
+pub fits_link : (n : ShapeNumbers) (k : Kind) (from onto : PartId) (part : PartView) → k ≡ kind.Link from onto → FitsKind n k part → IsLink part
 fits_link n k from onto (TileV v) e f = subst (λ k. FitsKind n k (TileV v)) e f
 fits_link n k from onto (RouterV v) e f = subst (λ k. FitsKind n k (RouterV v)) e f
 fits_link n k from onto (LinkV v) e f = tt
@@ -54,7 +54,7 @@ fits_link n k from onto (DetectorV v) e f = subst (λ k. FitsKind n k (DetectorV
 fits_link n k from onto AbsentV e f = subst (λ k. FitsKind n k AbsentV) e f
 
 -- a part that is no link is none
-fits_other : (n : ShapeNumbers) (k : Kind) (part : PartView) → ((from onto : PartId) → k ≡ kind.Link from onto → ⊥) → FitsKind n k part → NoLink part
+pub fits_other : (n : ShapeNumbers) (k : Kind) (part : PartView) → ((from onto : PartId) → k ≡ kind.Link from onto → ⊥) → FitsKind n k part → NoLink part
 fits_other n k (TileV v) not f = tt
 fits_other n k (RouterV v) not f = tt
 fits_other n kind.Host (LinkV v) not f = f
@@ -66,7 +66,7 @@ fits_other n k (HostV s) not f = tt
 fits_other n k (DetectorV v) not f = tt
 fits_other n k AbsentV not f = tt
 
-fits_way : (n : ShapeNumbers) (k : Kind) (part : PartView) (l : ℕ) (way : Port) → way ≡ link_way n l → FitsKind n k part → IsWay part l way
+pub fits_way : (n : ShapeNumbers) (k : Kind) (part : PartView) (l : ℕ) (way : Port) → way ≡ link_way n l → FitsKind n k part → IsWay part l way
 fits_way n kind.Host (TileV v) l way e f = absurd f
 fits_way n (kind.Tile tile) (TileV v) l way e f = e ∙ ap (λ m. link_way m l) (sym f.0)
 fits_way n (kind.Router board) (TileV v) l way e f = absurd f
@@ -82,7 +82,7 @@ fits_way n k (HostV s) l way e f = tt
 fits_way n k (DetectorV v) l way e f = tt
 fits_way n k AbsentV l way e f = tt
 
-fits_side : (n : ShapeNumbers) (k : Kind) (part : PartView) (l : ℕ) (side : Port) → side ≡ link_side n l → FitsKind n k part → IsSide part l side
+pub fits_side : (n : ShapeNumbers) (k : Kind) (part : PartView) (l : ℕ) (side : Port) → side ≡ link_side n l → FitsKind n k part → IsSide part l side
 fits_side n k (TileV v) l side e f = tt
 fits_side n kind.Host (RouterV v) l side e f = absurd f
 fits_side n (kind.Tile tile) (RouterV v) l side e f = absurd f
@@ -166,7 +166,7 @@ leads_onto w n p l side same e behind i =
 
 -- ---- the host and its links
 
-fits_host : (n : ShapeNumbers) (part : PartView) → FitsKind n kind.Host part → IsHost part
+pub fits_host : (n : ShapeNumbers) (part : PartView) → FitsKind n kind.Host part → IsHost part
 fits_host n (TileV v) f = f
 fits_host n (RouterV v) f = f
 fits_host n (LinkV v) f = f
@@ -202,7 +202,7 @@ to_host_pair w i = let many = host_links_there w.shape in host_pair w (part_coun
 
 -- ---- the detector and the parts that it visits
 
-fits_visits : (n : ShapeNumbers) (p : ℕ) (part : PartView) → p < visited n → FitsKind n kind.Detector part → Visits p part
+pub fits_visits : (n : ShapeNumbers) (p : ℕ) (part : PartView) → p < visited n → FitsKind n kind.Detector part → Visits p part
 fits_visits n p (TileV v) h f = f
 fits_visits n p (RouterV v) h f = f
 fits_visits n p (LinkV v) h f = f

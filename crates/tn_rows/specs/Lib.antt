@@ -1,3 +1,4 @@
+pub mod Cuts
 pub mod DetectorDeed
 pub mod Ends
 pub mod Events
@@ -6,4 +7,5 @@ pub mod PartView
 pub mod Places
 pub mod Roles
 pub mod Runs
+pub mod Stamped
 pub mod WorldView
