@@ -9,6 +9,7 @@ use Rattle.job_text.specs.declared.job.Job.{Job}
 use Rattle.job_text.specs.declared.job.JobKind.{JobKind}
 use Rattle.tn_text.specs.declared.stop.Fault.{Fault}
 use Rattle.job_text.specs.Text.{job_of}
+use Rattle.tn_letters.specs.AtRest.{AnswersAtRest}
 use Rattle.tn_letters.specs.Law.{IsBagRun}
 use Rattle.tn_base.specs.declared.event.Outcome.{Outcome}
 use Rattle.tn_call.specs.Answers.{Answers, Completes, IsCalm}
@@ -58,14 +59,15 @@ machine_of input = machine_by (job_of (lines_of input))
 
 -- What a command answers.
 
--- The kept history is a run of the machine to its end, and of the bag machine that says what messages mean. The status and the report
--- tell how the run ended. If the trace is asked for, the events of the kept history are written before the report.
+-- The kept history is a run of the machine to its end, and of the bag machine that says what messages mean. Each announcement in it comes
+-- at rest, and idle threads read what is announced. The status and the report tell how the run ended. If the trace is asked for, the events of the kept history are written before the report.
 pub record IsRunOf (trace : Bool) (start : WorldView) (kept : KeptView) (status : Status) (text : List ℕ) : Type 0 where
   pub kept_start : kept.start ≡ Some start
   pub end : WorldView
   pub outcome : Outcome
   pub run : Run start kept.history end
   pub means : IsBagRun start kept.history end
+  pub idle : AnswersAtRest start kept.history
   pub ended : IsOutcome kept.history end outcome
   pub status_is : status ≡ status_of outcome
   pub text_is : text ≡ (if trace then events_text kept.history else []) ++ report_text end outcome
