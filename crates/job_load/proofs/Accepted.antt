@@ -16,23 +16,24 @@ use Rattle.job_text.specs.declared.job.FillLine.{FillLine}
 use Rattle.job_text.specs.declared.job.Job.{Job}
 use Rattle.job_text.specs.declared.job.TableSection.{TableSection}
 use Rattle.job_text.specs.declared.job.TextSection.{TextSection}
-use Rattle.job_load.specs.declared.fault.FaultName.TheVariants as fault
-use Rattle.job_load.specs.declared.fault.LoadFault.{LoadFault}
-use Rattle.job_load.specs.Code.{code_of, is_empty, lacks_code}
-use Rattle.job_load.specs.Assembly.{sections_of}
-use Rattle.job_load.specs.Faults.{asm_fault, beat_fault, beat_lines, fault_at, fill_fault, has_board, missing_fault, number_fault, place_fault, section_fault, send_fault, shape_line, unbuilt_fault}
+use Rattle.job_faults.specs.declared.fault.FaultName.TheVariants as fault
+use Rattle.job_faults.specs.declared.fault.LoadFault.{LoadFault}
+use Rattle.job_faults.specs.Code.{code_of, is_empty, lacks_code}
+use Rattle.job_faults.specs.Assembly.{sections_of}
+use Rattle.job_faults.specs.Faults.{asm_fault, beat_fault, beat_lines, fault_at, fill_fault, has_board, missing_fault, number_fault, place_fault, section_fault, send_fault, shape_line}
 use Rattle.job_load.specs.Images.{IsWithin}
-use Rattle.job_load.specs.Labels.{labels_fault}
-use Rattle.job_load.specs.Room.{room_fault}
+use Rattle.job_faults.specs.Labels.{labels_fault}
+use Rattle.job_faults.specs.Room.{room_fault}
 use Rattle.job_load.specs.Laws.{IsFreshPart, IsStart}
-use Rattle.job_load.specs.Loaded.{load_fault, loaded, unless}
-use Rattle.job_load.specs.Mapping.{graph_fault}
-use Rattle.job_load.specs.Mixed.{mixed_fault}
-use Rattle.job_load.specs.Routed.{routes_fault}
+use Rattle.job_load.specs.Loaded.{loaded, unbuilt_fault}
+use Rattle.job_faults.specs.Mapping.{graph_fault}
+use Rattle.job_faults.specs.Mixed.{mixed_fault}
+use Rattle.job_faults.specs.Order.{load_fault, unless}
+use Rattle.job_faults.specs.Routed.{routes_fault}
 use Rattle.job_load.specs.Start.{part_start, start_of}
-use Rattle.job_load.specs.Tables.{table_fault}
-use Rattle.job_load.proofs.Boards.{faultless}
-use Rattle.job_load.proofs.Faults.{none_soonest, or_neither}
+use Rattle.job_faults.specs.Tables.{table_fault}
+use Rattle.job_faults.proofs.Boards.{faultless}
+use Rattle.job_faults.proofs.Faults.{none_soonest, or_neither}
 use Rattle.job_load.proofs.Starts.{fill_within, nothing_found, start_is_world}
 
 passes : (f : Option LoadFault) (others : Result WorldView LoadFault) (w : WorldView) → unless f others ≡ Ok w → (f ≡ None) × (others ≡ Ok w)
