@@ -5,7 +5,7 @@ use Rattle.std.specs.Option.{option_or}
 use Rattle.std.specs.Result.{result_ok}
 use Rattle.std.specs.declared.result.Result.{Result}
 use Rattle.std.proofs.lemmas.Bool.Decides.{nat_tests}
-use Rattle.std.proofs.lemmas.List.{append-nil, drop_all}
+use Rattle.std.proofs.lemmas.List.{append-nil, drop_all, get_or_default}
 use Rattle.std.specs.declared.result.Result.TheVariants.{Ok, Err}
 use Rattle.tn_base.specs.declared.shape.ShapeFault.{ShapeFault}
 use Rattle.tn_base.specs.declared.shape.ShapeNumbers.{ShapeNumbers}
@@ -22,7 +22,7 @@ use Rattle.job_faults.specs.declared.fault.LoadFault.{LoadFault}
 use Rattle.job_faults.specs.Code.{words_by}
 use Rattle.job_faults.specs.Faults.{beat_fault, beat_from, beat_lines, fault_at, fault_of_beat, number_fault, sooner, soonest}
 use Rattle.job_faults.specs.Names.{name_of_beat}
-use Rattle.job_faults.specs.ReadTables.{as_read, read_fault}
+use Rattle.job_faults.specs.ReadTables.{as_read, beats_in, read_fault}
 use Rattle.job_faults.specs.Tables.{beats_of}
 use Rattle.job_faults.proofs.Ranges.{rest_first}
 
@@ -72,16 +72,9 @@ pub soonest_read : (version : ℕ) (ts : List TableSection) → soonest read_fau
 soonest_read version [] = refl
 soonest_read version (t ∷ ts) = rw (soonest_append (beat_fault version) t.beats (beat_lines ts), soonest_read version ts) refl
 
--- a line that is read: a beat, or the first line that is none
-line_beat : (version line : ℕ) (beat : List RouteRec) (r : Result (List RouteRec) BeatFault) (rest : List (List RouteRec)) (first later : Option LoadFault) → Ok beat ≡ r →
-    (beat ∷ rest ≡ cons_option (result_ok r) rest) × (sooner first later ≡ sooner first (sooner (fault_of_beat line r) later))
-line_beat version line beat (Ok b) rest first later e = (cc, refl)
-line_beat version line beat (Err f) rest first later e = absurd cc
-
-line_none : (line : ℕ) (f : BeatFault) (r : Result (List RouteRec) BeatFault) (rest : List (List RouteRec)) → Err f ≡ r →
-    (rest ≡ cons_option (result_ok r) rest) × (Some (fault_at line (name_of_beat f)) ≡ fault_of_beat line r)
-line_none line f (Ok b) rest e = absurd cc
-line_none line f (Err g) rest e = (refl, cc)
+line_read : (r : Result (List RouteRec) BeatFault) (rest : Table) → beats_in r ++ rest ≡ cons_option (result_ok r) rest
+line_read (Ok beat) rest = refl
+line_read (Err found) rest = refl
 
 -- the beats and the first fault of lines that are read from the front
 pub record LinesRead (version : ℕ) (lines : List BeatLine) (i : ℕ) (beats : Table) (first : Option LoadFault) : Type 0 where
@@ -91,26 +84,20 @@ pub record LinesRead (version : ℕ) (lines : List BeatLine) (i : ℕ) (beats : 
 pub lines_begun : (version : ℕ) (lines : List BeatLine) → LinesRead version lines 0 [] None
 lines_begun version lines = record { beats_are = refl; fault_is = refl }
 
-pub beat_line : (version : ℕ) (lines : List BeatLine) (i : ℕ) (l : BeatLine) (beat : List RouteRec) (beats : Table) (first : Option LoadFault) → i < length lines → l ≡ get_or lines i l →
-    Ok beat ≡ beat_from version l.bytes → LinesRead version lines i beats first → LinesRead version lines (i + 1) (beats ++ beat ∷ []) first
-beat_line version lines i l beat beats first h is e read =
-    let here = line_beat version l.line beat (beat_from version l.bytes) (beats_of version (drop (i + 1) lines)) first (soonest (beat_fault version) (drop (i + 1) lines)) e in
-    record {
-      beats_are = append_assoc beats (beat ∷ []) (beats_of version (drop (i + 1) lines)) ∙ ap (λ (more : Table). beats ++ more) here.0
+line_more : (version : ℕ) (lines : List BeatLine) (i : ℕ) (l : BeatLine) (beats : Table) (first : Option LoadFault) → i < length lines → l ≡ get_or lines i l → LinesRead version lines i beats first →
+    LinesRead version lines (i + 1) (beats ++ beats_in (beat_from version l.bytes)) (sooner first (fault_of_beat l.line (beat_from version l.bytes)))
+line_more version lines i l beats first h is read = record {
+  beats_are = append_assoc beats (beats_in (beat_from version l.bytes)) (beats_of version (drop (i + 1) lines))
+      ∙ ap (λ (more : Table). beats ++ more) (line_read (beat_from version l.bytes) (beats_of version (drop (i + 1) lines)))
       ∙ ap (λ (ls : List BeatLine). beats ++ beats_of version ls) (sym (rest_first lines i l h is)) ∙ read.beats_are;
-      fault_is = here.1 ∙ ap (λ (ls : List BeatLine). sooner first (soonest (beat_fault version) ls)) (sym (rest_first lines i l h is)) ∙ read.fault_is;
-    }
-
-pub bad_line : (version : ℕ) (lines : List BeatLine) (i : ℕ) (l : BeatLine) (f : BeatFault) (beats : Table) (first : Option LoadFault) → i < length lines → l ≡ get_or lines i l →
-    Err f ≡ beat_from version l.bytes → LinesRead version lines i beats first → LinesRead version lines (i + 1) beats (sooner first (Some (fault_at l.line (name_of_beat f))))
-bad_line version lines i l f beats first h is e read =
-    let here = line_none l.line f (beat_from version l.bytes) (beats_of version (drop (i + 1) lines)) e in
-    record {
-      beats_are = ap (λ (more : Table). beats ++ more) here.0 ∙ ap (λ (ls : List BeatLine). beats ++ beats_of version ls) (sym (rest_first lines i l h is)) ∙ read.beats_are;
-      fault_is = ap (λ (o : Option LoadFault). sooner (sooner first o) (soonest (beat_fault version) (drop (i + 1) lines))) here.1
-      ∙ sooner_assoc first (beat_fault version l) (soonest (beat_fault version) (drop (i + 1) lines))
+  fault_is = sooner_assoc first (beat_fault version l) (soonest (beat_fault version) (drop (i + 1) lines))
       ∙ ap (λ (ls : List BeatLine). sooner first (soonest (beat_fault version) ls)) (sym (rest_first lines i l h is)) ∙ read.fault_is;
-    }
+}
+
+-- one line more. What is read past the last line is free
+pub one_line : (version : ℕ) (lines : List BeatLine) (i : ℕ) (d : BeatLine) (beats : Table) (first : Option LoadFault) → i < length lines → LinesRead version lines i beats first →
+    LinesRead version lines (i + 1) (beats ++ beats_in (beat_from version (get_or lines i d).bytes)) (sooner first (fault_of_beat (get_or lines i d).line (beat_from version (get_or lines i d).bytes)))
+one_line version lines i d beats first h read = line_more version lines i (get_or lines i d) beats first h (get_or_default lines i d (get_or lines i d) h) read
 
 pub lines_done : (version : ℕ) (lines : List BeatLine) (i : ℕ) (beats : Table) (first : Option LoadFault) → length lines ≤ i → LinesRead version lines i beats first →
     (beats ≡ beats_of version lines) × (first ≡ soonest (beat_fault version) lines)

@@ -15,6 +15,16 @@ use Rattle.job_faults.specs.Room.{room_fault}
 use Rattle.job_faults.specs.Routed.{routes_fault}
 use Rattle.job_faults.specs.Tables.{table_fault}
 
+-- the first fault of a job whose assembly and graph have none
+abbrev pub later_fault : Job → Option LoadFault
+later_fault job =
+    option_or (section_fault job)
+    (option_or (missing_fault job)
+    (option_or (labels_fault job)
+    (option_or (room_fault job)
+    (option_or (table_fault job)
+    (routes_fault job)))))
+
 -- the first fault
 abbrev pub load_fault : Job → Option LoadFault
 load_fault job =
@@ -22,12 +32,7 @@ load_fault job =
     (option_or (mixed_fault job)
     (option_or (asm_fault job)
     (option_or (graph_fault job)
-    (option_or (section_fault job)
-    (option_or (missing_fault job)
-    (option_or (labels_fault job)
-    (option_or (room_fault job)
-    (option_or (table_fault job)
-    (routes_fault job)))))))))
+    (later_fault job))))
 
 -- a fault refuses the job before what comes behind it
 abbrev pub unless : {V : Type 0} → Option LoadFault → Result V LoadFault → Result V LoadFault

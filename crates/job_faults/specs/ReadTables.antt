@@ -1,12 +1,22 @@
 -- The tables of a job as they are read.
-use Rattle.std.specs.Prelude.{ℕ, ◌==◌, ◌&&◌, Bool, List, Option}
+use Rattle.std.specs.Prelude.{ℕ, ◌==◌, ◌&&◌, Bool, List, [], ◌∷◌, Option}
 use Rattle.std.specs.List.{find}
+use Rattle.std.specs.declared.result.Result.{Result}
+use Rattle.std.specs.declared.result.Result.TheVariants.{Ok, Err}
 use Rattle.tn_base.specs.declared.ids.Board.{Board}
+use Rattle.tn_keys.specs.declared.beat.BeatFault.{BeatFault}
+use Rattle.tn_keys.specs.declared.record.RouteRec.{RouteRec}
+use Rattle.tn_keys.specs.Tables.{Table}
 use Rattle.job_text.specs.declared.job.TableSection.{TableSection}
 use Rattle.job_faults.specs.declared.fault.LoadFault.{LoadFault}
 use Rattle.job_faults.specs.declared.tables.ReadTable.{ReadTable}
 use Rattle.job_faults.specs.Faults.{beat_fault, soonest}
 use Rattle.job_faults.specs.Tables.{beats_of}
+
+-- what a line adds to the beats
+abbrev pub beats_in : Result (List RouteRec) BeatFault → Table
+beats_in (Ok beat) = beat ∷ []
+beats_in (Err found) = []
 
 -- a section's table: its beats, and the first line that is no beat
 abbrev pub as_read : ℕ → TableSection → ReadTable

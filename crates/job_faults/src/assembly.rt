@@ -61,10 +61,7 @@ fn assemble_after(
 }
 
 /// The sections of assembly as sections that give words with the labels of the first one, or the first that is none.
-pub(crate) fn assemble_all(
-    alloc: Global,
-    sections: &[TextSection],
-) -> Result<Assembled, LoadStop>
+pub(crate) fn assemble_all(alloc: Global, sections: &[TextSection]) -> Result<Assembled, LoadStop>
     requires { AllByRecursion IsNumbered sections.now }
     ensures { Assembles result sections.now }
 {

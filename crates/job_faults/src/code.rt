@@ -51,11 +51,7 @@ fn own_code(sections: &[CodeSection], tile: TileId) -> Option<&[u32]>
 }
 
 /// The code of a tile. Sections of assembly stand behind the others.
-pub fn code_of<'a>(
-    codes: &'a [CodeSection],
-    asms: &'a [CodeSection],
-    tile: TileId,
-) -> &'a [u32]
+pub fn code_of<'a>(codes: &'a [CodeSection], asms: &'a [CodeSection], tile: TileId) -> &'a [u32]
     ensures { result.now ≡ code_of (codes.now ++ asms.now) tile.0 }
 {
     if let Some(words) = own_code(codes, tile) {

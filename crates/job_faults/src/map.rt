@@ -7,7 +7,7 @@ ghost use Rattle.job_faults.specs.Order.{mapped};
 ghost use Rattle.job_faults.specs.Mapping.{IsMapped};
 ghost use Rattle.std.specs.Prelude.{IfOk};
 
-use crate::check::{Checked, check};
+use crate::check::{Checked, Read, check};
 use crate::fault::{FaultName, LoadStop};
 use crate::numbers::{fault_at, shape_line};
 use graph_text::graph::Graph;
@@ -32,7 +32,8 @@ pub fn map_graph(alloc: Global, job: &Job) -> Result<Mapped, LoadStop>
     ensures gives { Gives result (mapped job.now) }
     ensures fits { IfOk result IsMapped }
 {
-    let Checked { mapped, .. } = check(alloc, job)?;
+    let Checked { read, .. } = check(alloc, job)?;
+    let Read { mapped, .. } = read;
     match mapped {
         Some(mapped) => Ok(mapped),
         None => {

@@ -1,9 +1,9 @@
 //! The tables of a job.
 
-ghost use Rattle.std.specs.Prelude.{◌≡◌, ◌⊎◌, IfOk, Some, map, option_copied};
+ghost use Rattle.std.specs.Prelude.{◌≡◌, ◌⊎◌, ◌++◌, IfOk, Some, map, option_copied};
 ghost use Rattle.job_text.specs.WellFormed.{IsWellFormed};
-ghost use Rattle.job_faults.specs.Faults.{beat_from};
-ghost use Rattle.job_faults.specs.ReadTables.{as_read, read_for};
+ghost use Rattle.job_faults.specs.Faults.{beat_from, fault_of_beat};
+ghost use Rattle.job_faults.specs.ReadTables.{as_read, beats_in, read_for};
 ghost use Rattle.job_faults.specs.Tables.{section_for, table_fault, table_for, tables_of, told_at};
 
 use crate::fault::{FaultName, LoadFault};
@@ -38,20 +38,38 @@ fn beat_from(version: u32, bytes: &[u8; 32]) -> Result<Beat, BeatFault>
     read_beat(version, bytes)
 }
 
+/// Why bytes of a line are no beat.
+fn fault_of_beat(line: u32, read: &Result<Beat, BeatFault>) -> Option<LoadFault>
+    ensures { result ≡ fault_of_beat line read.now }
+{
+    match read {
+        Ok(_) => None,
+        Err(fault) => Some(fault_at(line, FaultName::of_beat(*fault))),
+    }
+}
+
+/// Appends the beat that a line is, if it is a beat.
+fn push_beat(beats: &mut Items<Beat>, read: Result<Beat, BeatFault>) -> Result<(), AllocError>
+    ensures { IfOk result (λ _. beats.new ≡ beats.old ++ beats_in read) }
+{
+    match read {
+        Ok(beat) => beats.push(beat),
+        Err(_fault) => Ok(()),
+    }
+}
+
 /// The table of a section. Each line is decoded once.
 fn read_table(alloc: Global, version: u32, table: &TableSection) -> Result<ReadTable, AllocError>
     requires { (version ≡ 1) ⊎ (version ≡ 2) }
     ensures { IfOk result (λ read. read ≡ as_read version table.now) }
 {
+    let lines = table.beats.as_slice();
     let mut beats = Items::new(alloc);
     let mut first = None;
-    for line in table.beats.as_slice() {
-        match beat_from(version, &line.bytes) {
-            Ok(beat) => beats.push(beat)?,
-            Err(fault) => {
-                first = sooner(first, Some(fault_at(line.line, FaultName::of_beat(fault))));
-            }
-        }
+    for line in lines {
+        let read = beat_from(version, &line.bytes);
+        first = sooner(first, fault_of_beat(line.line, &read));
+        push_beat(&mut beats, read)?;
     }
     Ok(ReadTable {
         line: table.line,
@@ -136,12 +154,7 @@ fn tables_of(
 }
 
 /// A fault of a board's table, at the line of its section.
-fn told_at(
-    _job: &Job,
-    read: &[ReadTable],
-    board: Board,
-    fault: TableFault,
-) -> Option<LoadFault>
+fn told_at(_job: &Job, read: &[ReadTable], board: Board, fault: TableFault) -> Option<LoadFault>
     requires { read.now ≡ map (as_read _job.now.version) _job.now.tables }
     ensures { result ≡ told_at (section_for _job.now board) (Some fault) }
 {

@@ -16,6 +16,8 @@ use Rattle.tn_host.specs.Rows.{fresh_state as fresh_host}
 use Rattle.tn_rows.specs.PartView.{PartView, TileV, RouterV, LinkV, HostV, DetectorV, AbsentV}
 use Rattle.tn_rows.specs.WorldView.{WorldView}
 use Rattle.tn_slots.specs.Pool.{fresh}
+use Rattle.tn_thread.specs.declared.state.ThreadState.TheVariants as state
+use Rattle.tn_thread.specs.declared.thread.Thread.{Thread}
 use Rattle.tn_tile.specs.TileView.{TileView}
 use Rattle.job_text.specs.declared.job.FillLine.{FillLine}
 use Rattle.job_text.specs.declared.job.Job.{Job}
@@ -45,8 +47,17 @@ pub record IsMemory (size : ℕ) (fills : List FillLine) (thread : ℕ) : Type 0
 
 -- The start.
 
+-- a thread that has made no step: it begins at address 0, each register is 0, and it sent nothing
+pub record IsFreshThread (t : Thread) : Type 0 where
+  pub runs : t.state ≡ state.Run
+  pub pc : t.pc ≡ 0
+  pub regs : t.regs ≡ replicate 32 0
+  pub steps : t.steps ≡ 0
+  pub sends : t.sends ≡ 0
+
 -- nothing has happened on a tile
 pub record IsFresh (v : TileView) : Type 0 where
+  pub threads : AllByRecursion IsFreshThread v.now.threads
   pub pending : v.now.pending ≡ replicate (tile_threads v.plan.shape) None
   pub pool : v.now.pool ≡ fresh v.plan.shape.slots (tile_threads v.plan.shape) (slot_bytes v.plan.shape)
   pub node : v.now.node ≡ fresh_node

@@ -62,7 +62,7 @@ fn tile_of(
     ensures { IfOk result (λ t. t ≡ tile_start job.now tile.0) }
 {
     let threads = threads_of(alloc, &checked.shape, images, tile)?;
-    let code = code_of(job.codes.as_slice(), checked.asms.as_slice(), tile);
+    let code = code_of(job.codes.as_slice(), checked.read.asms.as_slice(), tile);
     Tile::of(alloc, &checked.shape, tile, code, threads)
 }
 
@@ -84,7 +84,7 @@ fn part_of(
         Kind::Tile(tile) => Ok(Part::tile(tile_of(alloc, images, job, checked, tile)?)),
         Kind::Link { .. } => Ok(Part::link(PlainLink::of(alloc, shape.numbers().link)?)),
         Kind::Router(board) => {
-            let beats = table_for(alloc, job, checked.tables.as_slice(), board)?;
+            let beats = table_for(alloc, job, checked.read.tables.as_slice(), board)?;
             Ok(Part::router(Router::of(shape, board, beats)))
         }
         Kind::Host => {

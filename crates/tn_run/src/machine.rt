@@ -52,10 +52,8 @@ fn load_input(alloc: Global, input: &[u8]) -> Result<World<PlainLink>, LoadStop>
 {
     law_line_count(input);
     law_starts();
-    match job_said(alloc, input) {
-        Ok(job) => load(alloc, &job),
-        Err(stop) => Err(stop),
-    }
+    let job = job_said(alloc, input)?;
+    load(alloc, &job)
 }
 
 /// How a run ended with its last event, after which the machine is this one, if that event is final.

@@ -119,10 +119,8 @@ fn push_map(alloc: Global, text: &mut Vec<u8>, input: &[u8]) -> Result<(), LoadS
     ensures { Becomes result text.new.items (onto text.old.items (made_by TextCommand.Map input.now)) }
 {
     law_line_count(input);
-    match job_said(alloc, input) {
-        Ok(job) => push_mapped(alloc, text, &job),
-        Err(stop) => Err(stop),
-    }
+    let job = job_said(alloc, input)?;
+    push_mapped(alloc, text, &job)
 }
 
 fn push_made(

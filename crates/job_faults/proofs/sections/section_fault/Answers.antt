@@ -25,7 +25,6 @@ returns c =
       c.as_slice-2.ensures,
       c.as_slice-3.ensures,
       c.as_slice-4.ensures,
-      c.as_slice-5.ensures,
       c.requires.numbers,
       c.requires.asms,
       c.requires.tables,
