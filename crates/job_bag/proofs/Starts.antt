@@ -26,17 +26,17 @@ use Rattle.job_text.specs.declared.job.Job.{Job}
 use Rattle.job_text.specs.declared.job.ScriptLine.{ScriptLine}
 use Rattle.job_text.specs.declared.job.ScriptText.{ScriptText}
 use Rattle.job_text.specs.declared.job.ScriptText.TheVariants.{Send, Idle}
-use Rattle.job_load.specs.declared.fault.FaultName.TheVariants as fault
-use Rattle.job_load.specs.declared.fault.LoadFault.{LoadFault}
-use Rattle.job_load.specs.Assembly.{sections_of}
-use Rattle.job_load.specs.Code.{code_of}
-use Rattle.job_load.specs.Faults.{fault_at, is_message, item_fault, send_fault}
+use Rattle.job_faults.specs.declared.fault.FaultName.TheVariants as fault
+use Rattle.job_faults.specs.declared.fault.LoadFault.{LoadFault}
+use Rattle.job_faults.specs.Assembly.{sections_of}
+use Rattle.job_faults.specs.Code.{code_of}
+use Rattle.job_faults.specs.Faults.{fault_at, is_message, item_fault, send_fault}
 use Rattle.job_load.specs.Images.{IsWithin, memory_of}
 use Rattle.job_load.specs.Laws.{IsMemory}
 use Rattle.job_load.specs.Laws.{IsStart as IsJobStart}
 use Rattle.job_load.specs.Script.{item_of, script_of}
 use Rattle.job_load.specs.Start.{by_address, part_start, start_of, thread_start}
-use Rattle.job_load.specs.Tables.{table_for, tables_of as job_tables}
+use Rattle.job_faults.specs.Tables.{table_for, tables_of as job_tables}
 use Rattle.tn_letters.specs.Law.{IsSendable, IsStart, StartsSo}
 use Rattle.tn_letters.specs.Tiles.{beats_on, tables_of}
 

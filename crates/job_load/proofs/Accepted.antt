@@ -8,7 +8,7 @@ use Rattle.std.proofs.lemmas.Bool.Decides.{nat_tests}
 use Rattle.tn_base.specs.declared.part.Kind.{Kind}
 use Rattle.tn_base.specs.declared.part.Kind.TheVariants as kind
 use Rattle.tn_base.specs.declared.shape.ShapeNumbers.{ShapeNumbers}
-use Rattle.tn_base.specs.Address.{has_thread}
+use Rattle.tn_base.specs.Address.{has_thread, in_tile, tile_threads}
 use Rattle.tn_base.specs.Parts.{parts, tile_at, tile_count}
 use Rattle.tn_base.specs.Shape.{first_fault, is_shape}
 use Rattle.tn_rows.specs.WorldView.{WorldView}
@@ -16,23 +16,25 @@ use Rattle.job_text.specs.declared.job.FillLine.{FillLine}
 use Rattle.job_text.specs.declared.job.Job.{Job}
 use Rattle.job_text.specs.declared.job.TableSection.{TableSection}
 use Rattle.job_text.specs.declared.job.TextSection.{TextSection}
-use Rattle.job_load.specs.declared.fault.FaultName.TheVariants as fault
-use Rattle.job_load.specs.declared.fault.LoadFault.{LoadFault}
-use Rattle.job_load.specs.Code.{code_of, is_empty, lacks_code}
-use Rattle.job_load.specs.Assembly.{sections_of}
-use Rattle.job_load.specs.Faults.{asm_fault, beat_fault, beat_lines, fault_at, fill_fault, has_board, missing_fault, number_fault, place_fault, section_fault, send_fault, shape_line, unbuilt_fault}
+use Rattle.job_faults.specs.declared.fault.FaultName.TheVariants as fault
+use Rattle.job_faults.specs.declared.fault.LoadFault.{LoadFault}
+use Rattle.job_faults.specs.Code.{code_of, is_empty, lacks_code}
+use Rattle.job_faults.specs.Assembly.{sections_of}
+use Rattle.job_faults.specs.Faults.{asm_fault, beat_fault, beat_lines, fault_at, fill_fault, has_board, missing_fault, number_fault, place_fault, section_fault, send_fault, shape_line}
 use Rattle.job_load.specs.Images.{IsWithin}
-use Rattle.job_load.specs.Labels.{labels_fault}
-use Rattle.job_load.specs.Room.{room_fault}
-use Rattle.job_load.specs.Laws.{IsFreshPart, IsStart}
-use Rattle.job_load.specs.Loaded.{load_fault, loaded, unless}
-use Rattle.job_load.specs.Mapping.{graph_fault}
-use Rattle.job_load.specs.Mixed.{mixed_fault}
-use Rattle.job_load.specs.Routed.{routes_fault}
-use Rattle.job_load.specs.Start.{part_start, start_of}
-use Rattle.job_load.specs.Tables.{table_fault}
-use Rattle.job_load.proofs.Boards.{faultless}
-use Rattle.job_load.proofs.Faults.{none_soonest, or_neither}
+use Rattle.job_faults.specs.Labels.{labels_fault}
+use Rattle.job_faults.specs.Room.{room_fault}
+use Rattle.job_load.specs.Laws.{IsFreshPart, IsFreshThread, IsStart}
+use Rattle.job_load.specs.Loaded.{loaded, unbuilt_fault}
+use Rattle.job_faults.specs.Mapping.{graph_fault}
+use Rattle.job_faults.specs.Mixed.{mixed_fault}
+use Rattle.job_faults.specs.Order.{load_fault, unless}
+use Rattle.job_faults.specs.Routed.{routes_fault}
+use Rattle.job_load.specs.Start.{by_address, part_start, start_of, thread_start}
+use Rattle.job_faults.specs.Tables.{table_fault}
+use Rattle.job_faults.proofs.Boards.{faultless}
+use Rattle.job_faults.proofs.Faults.{none_soonest, or_neither}
+use Rattle.job_faults.proofs.Ranges.{all_in_range}
 use Rattle.job_load.proofs.Starts.{fill_within, nothing_found, start_is_world}
 
 passes : (f : Option LoadFault) (others : Result WorldView LoadFault) (w : WorldView) → unless f others ≡ Ok w → (f ≡ None) × (others ≡ Ok w)
@@ -88,8 +90,15 @@ boards_there n (t ∷ ts) all = (board_there n t (has_board n t) all.0, boards_t
 
 -- Parts.
 
+fresh_thread : (job : Job) (thread : ℕ) → IsFreshThread (thread_start job thread)
+fresh_thread job thread = record { runs = refl; pc = refl; regs = refl; steps = refl; sends = refl }
+
+fresh_threads : (job : Job) (tile : ℕ) → AllByRecursion IsFreshThread (by_address (thread_start job) job.numbers tile)
+fresh_threads job tile =
+    all_in_range IsFreshThread (λ k. thread_start job (in_tile job.numbers tile k)) 0 (tile_threads job.numbers) (λ k less. fresh_thread job (in_tile job.numbers tile k))
+
 fresh_part : (job : Job) (k : Kind) → IsFreshPart (part_start job k)
-fresh_part job (kind.Tile tile) = record { pending = refl; pool = refl; node = refl; dropped = refl; going = refl }
+fresh_part job (kind.Tile tile) = record { threads = fresh_threads job tile.0; pending = refl; pool = refl; node = refl; dropped = refl; going = refl }
 fresh_part job kind.Host = refl
 fresh_part job (kind.Router board) = record { inputs = refl; node = refl; going = refl }
 fresh_part job (kind.Link from onto) = refl

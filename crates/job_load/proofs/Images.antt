@@ -6,7 +6,7 @@ use Rattle.std.proofs.lemmas.List.{append-nil, drop-append-le, drop_all, get_or-
 use Rattle.job_text.specs.declared.job.FillLine.{FillLine}
 use Rattle.job_load.specs.Images.{AreImages, IsWithin, fills_of, image_at, image_with, laid, memory_of, overlaid}
 use Rattle.tn_pages.specs.Paged.{filled}
-use Rattle.job_load.proofs.Ranges.{rest_first}
+use Rattle.job_faults.proofs.Ranges.{rest_first}
 
 -- what is long enough is not filled up
 pub filled_none : (size : ℕ) (image : List ℕ) → size ≤ length image → filled size image ≡ image

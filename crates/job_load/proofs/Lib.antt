@@ -1,13 +1,5 @@
 pub mod Accepted
-pub mod Assembled
-pub mod Boards
-pub mod Faults
-pub mod First
 pub mod Images
-pub mod Labelled
-pub mod Maps
 pub mod Memory
 pub mod Named
-pub mod Ranges
-pub mod Rooms
 pub mod Starts

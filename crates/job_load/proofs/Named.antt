@@ -8,24 +8,16 @@ use Rattle.tn_base.specs.declared.shape.ShapeNumbers.{ShapeNumbers}
 use Rattle.tn_base.specs.Address.{has_tile}
 use Rattle.tn_base.specs.Parts.{all_router_links, all_tile_links, board_at, board_count, board_tiles, from_host_links, from_router_links, from_routers, from_tile_links, kind_of, link, only_if, parts, router_links, router_part, tile_at, tile_count, tile_links, tile_part}
 use Rattle.tn_keys.specs.Tables.{HasBoard}
+use Rattle.job_faults.proofs.Ranges.{all_at, all_in_range}
 use Rattle.job_load.specs.Start.{IsThere}
 
 all_append : {X : Type 0} (P : X → Type 0) (xs ys : List X) → AllByRecursion P xs → AllByRecursion P ys → AllByRecursion P (xs ++ ys)
 all_append P [] ys a b = b
 all_append P (x ∷ xs) ys a b = (a.0, all_append P xs ys a.1 b)
 
-pub all_mapped : {X : Type 0} (P : X → Type 0) (f : ℕ → X) (i count : ℕ) → ((k : ℕ) → k < i + count → P (f k)) → AllByRecursion P (map f (range_with_len i count))
-all_mapped P f i zero h = tt
-all_mapped P f i (suc count) h = (h i (omega arith), all_mapped P f (i + 1) count (λ k less. h k (omega arith)))
-
 all_flat : {X : Type 0} (P : X → Type 0) (f : ℕ → List X) (i count : ℕ) → ((k : ℕ) → AllByRecursion P (f k)) → AllByRecursion P (flat_map f (range_with_len i count))
 all_flat P f i zero h = tt
 all_flat P f i (suc count) h = all_append P (f i) (flat_map f (range_with_len (i + 1) count)) (h i) (all_flat P f (i + 1) count h)
-
-pub all_at : {X : Type 0} (P : X → Type 0) (xs : List X) (k : ℕ) (d : X) → AllByRecursion P xs → P d → P (get_or xs k d)
-all_at P [] k d all past = past
-all_at P (x ∷ xs) zero d all past = all.0
-all_at P (x ∷ xs) (suc k) d all past = all_at P xs k d all.1 past
 
 turned : (a b i : ℕ) → i < a * b → i < b * a
 turned a b i h = grind arith
@@ -77,9 +69,9 @@ pub parts_named : (n : ShapeNumbers) → ((i : ℕ) → i < tile_count n → IsT
 parts_named n tiles = (
   tt,
   all_append (IsThere n) (map (λ i. kind.Tile (record { 0 = tile_at n i })) (range_with_len 0 (tile_count n))) (from_routers n)
-      (all_mapped (IsThere n) (λ i. kind.Tile (record { 0 = tile_at n i })) 0 (tile_count n) (λ k less. tiles k (omega arith)))
+      (all_in_range (IsThere n) (λ i. kind.Tile (record { 0 = tile_at n i })) 0 (tile_count n) (λ k less. tiles k (omega arith)))
       (all_append (IsThere n) (map (λ i. kind.Router (board_at n i)) (range_with_len 0 (board_count n))) (from_tile_links n)
-      (all_mapped (IsThere n) (λ i. kind.Router (board_at n i)) 0 (board_count n) (λ k less. has_board_at n k (omega arith))) (links_named n)),
+      (all_in_range (IsThere n) (λ i. kind.Router (board_at n i)) 0 (board_count n) (λ k less. has_board_at n k (omega arith))) (links_named n)),
 )
 
 pub kind_named : (n : ShapeNumbers) (p : ℕ) → ((i : ℕ) → i < tile_count n → IsTrue (has_tile n (tile_at n i))) → IsThere n (kind_of n p)

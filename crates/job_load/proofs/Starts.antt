@@ -21,16 +21,16 @@ use Rattle.tn_tile.specs.Step.{no_thread}
 use Rattle.tn_tile.specs.TileView.{TileView}
 use Rattle.job_text.specs.declared.job.FillLine.{FillLine}
 use Rattle.job_text.specs.declared.job.Job.{Job}
-use Rattle.job_load.specs.declared.fault.FaultName.TheVariants as fault
-use Rattle.job_load.specs.Assembly.{sections_of}
-use Rattle.job_load.specs.Code.{code_of}
-use Rattle.job_load.specs.Faults.{beat_fault, beat_lines, code_fault, fault_at, fill_fault, place_fault, section_fault, send_fault, soonest}
+use Rattle.job_faults.specs.declared.fault.FaultName.TheVariants as fault
+use Rattle.job_faults.specs.Assembly.{sections_of}
+use Rattle.job_faults.specs.Code.{code_of}
+use Rattle.job_faults.specs.Faults.{beat_fault, beat_lines, code_fault, fault_at, fill_fault, place_fault, section_fault, send_fault, soonest}
 use Rattle.job_load.specs.Images.{AreImages, IsWithin, image_at, memory_of}
 use Rattle.tn_pages.specs.Paged.{filled, started_with}
 use Rattle.job_load.specs.Start.{by_address, part_start, start_of, thread_over, thread_start, tile_start}
-use Rattle.job_load.proofs.Faults.{NoneFound, none_of_five, none_soonest}
+use Rattle.job_faults.proofs.Faults.{NoneFound, none_of_five, none_soonest}
 use Rattle.job_load.proofs.Images.{filled_long, filled_none}
-use Rattle.job_load.proofs.Ranges.{map_same}
+use Rattle.job_faults.proofs.Ranges.{map_same}
 
 -- Images and memories.
 

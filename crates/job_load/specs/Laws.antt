@@ -1,4 +1,4 @@
--- What the definitions of faults and of memory mean.
+-- What the definitions of memory and of the start mean.
 use Rattle.std.specs.Prelude.{ℕ, ◌≡◌, ◌⊎◌, ◌≤◌, ◌<◌, ◌+◌, ◌-◌, ◌++◌, ◌&&◌, List, [], ◌∷◌, length, nat_le, nat_lt, Option, Some, None, replicate, slice_index, if◌then◌else◌, IsTrue}
 use Rattle.std.specs.List.{AllByRecursion, filter_map}
 use Rattle.std.specs.Option.{option_or, unwrap_or}
@@ -16,36 +16,18 @@ use Rattle.tn_host.specs.Rows.{fresh_state as fresh_host}
 use Rattle.tn_rows.specs.PartView.{PartView, TileV, RouterV, LinkV, HostV, DetectorV, AbsentV}
 use Rattle.tn_rows.specs.WorldView.{WorldView}
 use Rattle.tn_slots.specs.Pool.{fresh}
+use Rattle.tn_thread.specs.declared.state.ThreadState.TheVariants as state
+use Rattle.tn_thread.specs.declared.thread.Thread.{Thread}
 use Rattle.tn_tile.specs.TileView.{TileView}
 use Rattle.job_text.specs.declared.job.FillLine.{FillLine}
 use Rattle.job_text.specs.declared.job.Job.{Job}
-use Rattle.job_load.specs.declared.fault.LoadFault.{LoadFault}
-use Rattle.job_load.specs.Assembly.{sections_of}
-use Rattle.job_load.specs.Code.{code_of}
-use Rattle.job_load.specs.Faults.{beat_fault, beat_lines, code_fault, fill_fault, has_board, place_fault, send_fault}
+use Rattle.job_faults.specs.declared.fault.LoadFault.{LoadFault}
+use Rattle.job_faults.specs.Assembly.{sections_of}
+use Rattle.job_faults.specs.Code.{code_of}
+use Rattle.job_faults.specs.Faults.{beat_fault, beat_lines, code_fault, fill_fault, has_board, place_fault, send_fault}
 use Rattle.job_load.specs.Images.{IsWithin, fills_of, memory_of}
 use Rattle.job_load.specs.Start.{start_of}
-use Rattle.job_load.specs.Tables.{tables_of}
-
--- Faults.
-
--- the faults of all sections
-abbrev pub section_faults : Job → List LoadFault
-section_faults job =
-    filter_map (code_fault job.numbers) (sections_of job)
-    ++ (filter_map (fill_fault job.numbers) job.fills
-    ++ (filter_map (place_fault job.numbers) job.tables
-    ++ (filter_map (beat_fault job.version) (beat_lines job.tables)
-    ++ filter_map (send_fault job.numbers) job.script)))
-
-abbrev pub IsAmong : LoadFault → List LoadFault → Type 0
-IsAmong f [] = ⊥
-IsAmong f (g ∷ gs) = (f ≡ g) ⊎ IsAmong f gs
-
--- one of these faults, of which none stands on an earlier line; or there are none
-abbrev pub IsFirst : Option LoadFault → List LoadFault → Type 0
-IsFirst None faults = faults ≡ []
-IsFirst (Some f) faults = IsAmong f faults × AllByRecursion (λ g. f.line ≤ g.line) faults
+use Rattle.job_faults.specs.Tables.{tables_of}
 
 -- Memory.
 
@@ -65,8 +47,17 @@ pub record IsMemory (size : ℕ) (fills : List FillLine) (thread : ℕ) : Type 0
 
 -- The start.
 
+-- a thread that has made no step: it begins at address 0, each register is 0, and it sent nothing
+pub record IsFreshThread (t : Thread) : Type 0 where
+  pub runs : t.state ≡ state.Run
+  pub pc : t.pc ≡ 0
+  pub regs : t.regs ≡ replicate 32 0
+  pub steps : t.steps ≡ 0
+  pub sends : t.sends ≡ 0
+
 -- nothing has happened on a tile
 pub record IsFresh (v : TileView) : Type 0 where
+  pub threads : AllByRecursion IsFreshThread v.now.threads
   pub pending : v.now.pending ≡ replicate (tile_threads v.plan.shape) None
   pub pool : v.now.pool ≡ fresh v.plan.shape.slots (tile_threads v.plan.shape) (slot_bytes v.plan.shape)
   pub node : v.now.node ≡ fresh_node

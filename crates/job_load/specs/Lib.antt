@@ -1,16 +1,5 @@
-pub mod Assembly
-pub mod Checked
-pub mod Code
-pub mod Faults
 pub mod Images
-pub mod Labels
 pub mod Laws
 pub mod Loaded
-pub mod Mapping
-pub mod Mixed
-pub mod Names
-pub mod Room
-pub mod Routed
 pub mod Script
 pub mod Start
-pub mod Tables

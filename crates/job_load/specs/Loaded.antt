@@ -1,51 +1,19 @@
--- What a job makes: its machine at the start, or its graph with places and routes, or the first fault.
--- A job with a graph makes no machine yet.
-use Rattle.std.specs.Prelude.{ℕ, Option, Some, None}
-use Rattle.std.specs.Option.{option_or}
+-- What a job makes: its machine at the start, or the first fault. A job with a graph makes no machine yet.
+use Rattle.std.specs.Prelude.{Option, Some, option_map}
 use Rattle.std.specs.declared.result.Result.{Result}
 use Rattle.std.specs.declared.result.Result.TheVariants.{Ok, Err}
 use Rattle.tn_rows.specs.WorldView.{WorldView}
 use Rattle.job_text.specs.declared.job.Job.{Job}
-use Rattle.job_load.specs.declared.fault.FaultName.TheVariants as fault
-use Rattle.job_load.specs.declared.fault.LoadFault.{LoadFault}
-use Rattle.job_load.specs.declared.map.Mapped.{Mapped}
-use Rattle.job_load.specs.Faults.{asm_fault, fault_at, missing_fault, number_fault, section_fault, shape_line, unbuilt_fault}
-use Rattle.job_load.specs.Labels.{labels_fault}
-use Rattle.job_load.specs.Mapping.{graph_fault, graph_mapped}
-use Rattle.job_load.specs.Mixed.{mixed_fault}
-use Rattle.job_load.specs.Room.{room_fault}
-use Rattle.job_load.specs.Routed.{routes_fault}
+use Rattle.job_faults.specs.declared.fault.FaultName.TheVariants as fault
+use Rattle.job_faults.specs.declared.fault.LoadFault.{LoadFault}
+use Rattle.job_faults.specs.Faults.{fault_at}
+use Rattle.job_faults.specs.Order.{load_fault, unless}
 use Rattle.job_load.specs.Start.{start_of}
-use Rattle.job_load.specs.Tables.{table_fault}
 
--- the first fault
-abbrev pub load_fault : Job → Option LoadFault
-load_fault job =
-    option_or (number_fault job)
-    (option_or (mixed_fault job)
-    (option_or (asm_fault job)
-    (option_or (graph_fault job)
-    (option_or (section_fault job)
-    (option_or (missing_fault job)
-    (option_or (labels_fault job)
-    (option_or (room_fault job)
-    (option_or (table_fault job)
-    (routes_fault job)))))))))
-
--- a fault refuses the job before what comes behind it
-abbrev pub unless : {V : Type 0} → Option LoadFault → Result V LoadFault → Result V LoadFault
-unless None others = others
-unless (Some fault) others = Err fault
+-- what the machine does not have yet, which refuses a job last: a graph, at its line
+abbrev pub unbuilt_fault : Job → Option LoadFault
+unbuilt_fault job = option_map (λ graph. fault_at graph.line fault.UnsupportedYet) job.graph
 
 -- the faults, then what the machine does not have yet, and behind them the start
 abbrev pub loaded : Job → Result WorldView LoadFault
 loaded job = unless (load_fault job) (unless (unbuilt_fault job) (Ok (start_of job)))
-
--- a job without a graph has none to map
-abbrev pub map_or : ℕ → Option Mapped → Result Mapped LoadFault
-map_or line None = Err (fault_at line fault.NoGraph)
-map_or line (Some m) = Ok m
-
--- the faults, and behind them the graph with its places and routes
-abbrev pub mapped : Job → Result Mapped LoadFault
-mapped job = unless (load_fault job) (map_or (shape_line job.number_lines) (graph_mapped job))

@@ -17,11 +17,11 @@ use Rattle.tn_thread.specs.Step.{started}
 use Rattle.tn_tile.specs.Kept.{fresh_tile}
 use Rattle.tn_tile.specs.TileView.{TileView}
 use Rattle.job_text.specs.declared.job.Job.{Job}
-use Rattle.job_load.specs.Assembly.{sections_of}
-use Rattle.job_load.specs.Code.{code_of}
+use Rattle.job_faults.specs.Assembly.{sections_of}
+use Rattle.job_faults.specs.Code.{code_of}
 use Rattle.job_load.specs.Images.{image_at, memory_of}
 use Rattle.job_load.specs.Script.{script_of}
-use Rattle.job_load.specs.Tables.{table_for}
+use Rattle.job_faults.specs.Tables.{table_for}
 
 -- the threads of a tile by ascending address, each as its address says
 abbrev pub by_address : (ℕ → Thread) → ShapeNumbers → ℕ → List Thread

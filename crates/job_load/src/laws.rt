@@ -6,18 +6,14 @@ ghost use Rattle.tn_rows.specs.WorldView.{WorldView};
 ghost use Rattle.job_text.specs.declared.job.FillLine.{FillLine};
 ghost use Rattle.job_text.specs.declared.job.Job.{Job};
 ghost use Rattle.job_text.specs.declared.job.TextSection.{TextSection};
-ghost use Rattle.job_load.specs.declared.fault.FaultName.TheVariants as fault;
-ghost use Rattle.job_load.specs.declared.fault.LoadFault.{LoadFault};
-ghost use Rattle.job_load.specs.Faults.{fault_at, section_fault};
+ghost use Rattle.job_faults.specs.declared.fault.FaultName.TheVariants as fault;
+ghost use Rattle.job_faults.specs.declared.fault.LoadFault.{LoadFault};
+ghost use Rattle.job_faults.specs.Faults.{fault_at};
+ghost use Rattle.job_faults.specs.Order.{load_fault};
 ghost use Rattle.job_load.specs.Images.{IsWithin};
-ghost use Rattle.job_load.specs.Laws.{IsFirst, IsMemory, IsStart, section_faults};
-ghost use Rattle.job_load.specs.Loaded.{load_fault, loaded};
+ghost use Rattle.job_load.specs.Laws.{IsMemory, IsStart};
+ghost use Rattle.job_load.specs.Loaded.{loaded};
 ghost use Rattle.job_load.specs.Start.{start_of};
-
-/// Of all faults of sections the one that refuses a job stands on the first line.
-pub fn law_sections()
-    ensures { (job : Job) → IsFirst (section_fault job) (section_faults job) }
-{}
 
 /// A fault refuses a job before its graph does. If no fault refuses a job, its graph refuses the job at the graph's line. A
 /// job without a fault and without a graph is accepted, whatever its host waits for.

@@ -6,10 +6,10 @@ ghost use Rattle.job_text.specs.WellFormed.{IsWellFormed};
 ghost use Rattle.tn_text.specs.Gives.{Gives};
 ghost use Rattle.job_load.specs.Loaded.{loaded};
 
-use crate::check::{Checked, check};
-use crate::fault::LoadStop;
 use crate::start::start_of;
 use crate::unbuilt::unbuilt_fault;
+use job_faults::check::check;
+use job_faults::fault::LoadStop;
 use job_text::job::Job;
 use std::alloc::Global;
 use tn_link::plain::PlainLink;
@@ -27,9 +27,9 @@ pub fn load(alloc: Global, job: &Job) -> Result<World<PlainLink>, LoadStop>
     requires numbered { AreNumbered job.now }
     ensures { Gives result (loaded job.now) }
 {
-    let Checked { shape, asms, .. } = check(alloc, job)?;
+    let checked = check(alloc, job)?;
     if let Some(fault) = unbuilt_fault(job) {
         return Err(LoadStop::Fault(fault));
     }
-    Ok(start_of(alloc, &shape, job, asms.as_slice())?)
+    Ok(start_of(alloc, job, &checked)?)
 }

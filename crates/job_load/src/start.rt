@@ -1,19 +1,18 @@
 //! A job's machine at its start.
 
-ghost use Rattle.std.specs.Prelude.{◌≡◌, ◌≤◌, ℕ, IfOk, IsTrue, None, length, map};
+ghost use Rattle.std.specs.Prelude.{◌≡◌, ◌≤◌, ℕ, IfOk, IsTrue, length, map};
 ghost use Rattle.tn_base.specs.Address.{has_tile};
-ghost use Rattle.tn_base.specs.Parts.{parts, tile_at, tile_count};
-ghost use Rattle.job_text.specs.WellFormed.{IsWellFormed};
-ghost use Rattle.job_load.specs.Assembly.{as_code};
-ghost use Rattle.job_load.specs.Faults.{section_fault};
+ghost use Rattle.tn_base.specs.Parts.{parts};
+ghost use Rattle.job_faults.specs.Checked.{IsChecked};
 ghost use Rattle.job_load.specs.Images.{AreImages, image_at};
 ghost use Rattle.job_load.specs.Start.{IsThere, by_address, part_start, start_of, thread_over, tile_start};
 
-use crate::code::code_of;
 use crate::image::Images;
 use crate::script::script_of;
-use crate::tables::table_for;
-use job_text::job::{CodeSection, Job};
+use job_faults::check::Checked;
+use job_faults::code::code_of;
+use job_faults::tables::table_for;
+use job_text::job::Job;
 use std::alloc::{AllocError, Global};
 use tn_base::ids::{PartId, TileId};
 use tn_base::laws::law_tiles;
@@ -52,49 +51,40 @@ fn threads_of(
 /// A tile over its code and its threads.
 fn tile_of(
     alloc: Global,
-    shape: &Shape,
     images: &Images,
     job: &Job,
-    asms: &[CodeSection],
+    checked: &Checked,
     tile: TileId,
 ) -> Result<Tile, AllocError>
-    requires tile { IsTrue (has_tile shape.now tile.0) }
-    requires numbers { shape.now ≡ job.now.numbers }
-    requires images { AreImages shape.now.mem job.now.fills images.now }
-    requires asms { asms.now ≡ map as_code job.now.asms }
+    requires tile { IsTrue (has_tile checked.now.shape tile.0) }
+    requires images { AreImages checked.now.shape.mem job.now.fills images.now }
+    requires checked { IsChecked job.now checked.now }
     ensures { IfOk result (λ t. t ≡ tile_start job.now tile.0) }
 {
-    let threads = threads_of(alloc, shape, images, tile)?;
-    Tile::of(
-        alloc,
-        shape,
-        tile,
-        code_of(job.codes.as_slice(), asms, tile),
-        threads,
-    )
+    let threads = threads_of(alloc, &checked.shape, images, tile)?;
+    let code = code_of(job.codes.as_slice(), checked.read.asms.as_slice(), tile);
+    Tile::of(alloc, &checked.shape, tile, code, threads)
 }
 
 /// A part of this kind.
 fn part_of(
     alloc: Global,
-    shape: &Shape,
     images: &Images,
     job: &Job,
-    asms: &[CodeSection],
+    checked: &Checked,
     kind: Kind,
 ) -> Result<Part<PlainLink>, AllocError>
-    requires kind { IsThere shape.now kind }
-    requires numbers { shape.now ≡ job.now.numbers }
-    requires formed { IsWellFormed job.now }
-    requires images { AreImages shape.now.mem job.now.fills images.now }
-    requires asms { asms.now ≡ map as_code job.now.asms }
+    requires kind { IsThere checked.now.shape kind }
+    requires images { AreImages checked.now.shape.mem job.now.fills images.now }
+    requires checked { IsChecked job.now checked.now }
     ensures { IfOk result (λ part. part ≡ part_start job.now kind) }
 {
+    let shape = &checked.shape;
     match kind {
-        Kind::Tile(tile) => Ok(Part::tile(tile_of(alloc, shape, images, job, asms, tile)?)),
+        Kind::Tile(tile) => Ok(Part::tile(tile_of(alloc, images, job, checked, tile)?)),
         Kind::Link { .. } => Ok(Part::link(PlainLink::of(alloc, shape.numbers().link)?)),
         Kind::Router(board) => {
-            let beats = table_for(alloc, job, board)?;
+            let beats = table_for(alloc, job, checked.read.tables.as_slice(), board)?;
             Ok(Part::router(Router::of(shape, board, beats)))
         }
         Kind::Host => {
@@ -108,41 +98,36 @@ fn part_of(
 /// One part for each part of the shape.
 fn parts_of(
     alloc: Global,
-    shape: &Shape,
     images: &Images,
     job: &Job,
-    asms: &[CodeSection],
+    checked: &Checked,
 ) -> Result<Vec<Part<PlainLink>>, AllocError>
-    requires numbers { shape.now ≡ job.now.numbers }
-    requires formed { IsWellFormed job.now }
-    requires images { AreImages shape.now.mem job.now.fills images.now }
-    requires asms { asms.now ≡ map as_code job.now.asms }
-    ensures { IfOk result (λ all. all.items ≡ map (part_start job.now) (parts shape.now)) }
+    requires images { AreImages checked.now.shape.mem job.now.fills images.now }
+    requires checked { IsChecked job.now checked.now }
+    ensures { IfOk result (λ all. all.items ≡ map (part_start job.now) (parts checked.now.shape)) }
 {
+    let shape = &checked.shape;
     law_tiles(shape);
     let count = shape.part_count();
     let mut all = Vec::with_capacity(alloc, count as usize)?;
     for p in 0..count {
-        let part = part_of(alloc, shape, images, job, asms, shape.kind(PartId(p)))?;
+        let part = part_of(alloc, images, job, checked, shape.kind(PartId(p)))?;
         all.push(part)?;
     }
     Ok(all)
 }
 
-/// The machine at its start, of a job whose sections name only what the machine has.
+/// The machine at its start, of a job without a fault.
 pub(crate) fn start_of(
     alloc: Global,
-    shape: &Shape,
     job: &Job,
-    asms: &[CodeSection],
+    checked: &Checked,
 ) -> Result<World<PlainLink>, AllocError>
-    requires numbers { shape.now ≡ job.now.numbers }
-    requires asms { asms.now ≡ map as_code job.now.asms }
-    requires formed { IsWellFormed job.now }
-    requires sections { section_fault job.now ≡ None }
+    requires { IsChecked job.now checked.now }
     ensures { IfOk result (λ world. world ≡ start_of job.now) }
 {
-    let images = Images::of(alloc, shape.numbers().mem, job.fills.as_slice())?;
-    let parts = parts_of(alloc, shape, &images, job, asms)?;
-    World::of(*shape, parts)
+    let mem = checked.shape.numbers().mem;
+    let images = Images::of(alloc, mem, job.fills.as_slice())?;
+    let parts = parts_of(alloc, &images, job, checked)?;
+    World::of(checked.shape, parts)
 }

@@ -1,10 +1,10 @@
 //! What the machine does not have yet.
 
 ghost use Rattle.std.specs.Prelude.{◌≡◌};
-ghost use Rattle.job_load.specs.Faults.{unbuilt_fault};
+ghost use Rattle.job_load.specs.Loaded.{unbuilt_fault};
 
-use crate::fault::{FaultName, LoadFault};
-use crate::numbers::fault_at;
+use job_faults::fault::{FaultName, LoadFault};
+use job_faults::numbers::fault_at;
 use job_text::job::Job;
 
 /// A graph, at its line: no machine is made of a graph yet.

@@ -4,7 +4,7 @@ use Rattle.std.proofs.Common.{IfOk}
 use Rattle.std.specs.declared.result.Result.{Result}
 use Rattle.std.specs.declared.result.Result.TheVariants.{Ok, Err}
 use Rattle.std.specs.List.{slice_get}
-use Rattle.job_load.specs.declared.fault.LoadFault.{LoadFault}
+use Rattle.job_faults.specs.declared.fault.LoadFault.{LoadFault}
 use Rattle.tn_text.specs.declared.stop.Stop.{Stop}
 use Rattle.tn_text.specs.Gives.{Gives}
 use Rattle.tn_letters.specs.Law.{IsStart}

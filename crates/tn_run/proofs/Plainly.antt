@@ -2,7 +2,7 @@
 use Rattle.std.proofs.Common.{◌≡◌, ℕ, List, ◌++◌, false, refl, ap, subst, append_assoc}
 use Rattle.std.specs.declared.result.Result.{Result}
 use Rattle.std.specs.declared.result.Result.TheVariants.{Ok, Err}
-use Rattle.job_load.specs.declared.fault.LoadFault.{LoadFault}
+use Rattle.job_faults.specs.declared.fault.LoadFault.{LoadFault}
 use Rattle.tn_call.specs.declared.status.Status.{Status}
 use Rattle.tn_call.specs.declared.status.Status.TheVariants.{Done, Usage, Refused, Trapped, BadKey, Spent, Jammed, ReadFault, WriteFault, Memory, TooLong}
 use Rattle.tn_run.specs.Texts.{EndsPlainly, answer_by, before, is_outcome, made_by, onto}

@@ -2,13 +2,10 @@
 use Rattle.std.specs.Prelude.{◌≡◌, ℕ, Bool, true, List, [], ◌++◌, if◌then◌else◌, None, Option, Some, option_and_then}
 use Rattle.std.specs.declared.result.Result.{Result}
 use Rattle.std.specs.declared.result.Result.TheVariants.{Ok, Err}
-use Rattle.job_load.specs.declared.fault.LoadFault.{LoadFault}
+use Rattle.job_faults.specs.declared.fault.LoadFault.{LoadFault}
 use Rattle.job_load.specs.Loaded.{loaded}
-use Rattle.job_load.specs.Names.{fault_of_job}
+use Rattle.job_faults.specs.Names.{job_said}
 use Rattle.job_text.specs.declared.job.Job.{Job}
-use Rattle.job_text.specs.declared.job.JobKind.{JobKind}
-use Rattle.tn_text.specs.declared.stop.Fault.{Fault}
-use Rattle.job_text.specs.Text.{job_of}
 use Rattle.tn_letters.specs.AtRest.{AnswersAtRest}
 use Rattle.tn_letters.specs.Law.{IsBagRun}
 use Rattle.tn_base.specs.declared.event.Outcome.{Outcome}
@@ -49,13 +46,13 @@ machine_reads (machine.Run workers trace) = true
 -- From an input to its machine.
 
 -- the machine of what was read, at its start, or the first fault
-abbrev pub machine_by : Result Job (Fault JobKind) → Result WorldView LoadFault
+abbrev pub machine_by : Result Job LoadFault → Result WorldView LoadFault
 machine_by (Ok job) = loaded job
-machine_by (Err fault) = Err (fault_of_job fault)
+machine_by (Err fault) = Err fault
 
 -- the machine of an input, at its start, or the first fault
 abbrev pub machine_of : List ℕ → Result WorldView LoadFault
-machine_of input = machine_by (job_of (lines_of input))
+machine_of input = machine_by (job_said (lines_of input))
 
 -- What a command answers.
 

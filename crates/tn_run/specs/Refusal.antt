@@ -1,7 +1,7 @@
 -- The line of a refusal.
 use Rattle.std.specs.Prelude.{ℕ, List, ◌++◌, codes, decimal}
-use Rattle.job_load.specs.declared.fault.LoadFault.{LoadFault}
-use Rattle.job_load.specs.Names.{fault_text}
+use Rattle.job_faults.specs.declared.fault.LoadFault.{LoadFault}
+use Rattle.job_faults.specs.Names.{fault_text}
 
 -- `refused LINE KIND`
 abbrev pub refusal_text : LoadFault → List ℕ

@@ -16,16 +16,14 @@ use Rattle.asm_text.specs.declared.fault.AsmKind.{AsmKind}
 use Rattle.tn_text.specs.declared.stop.Fault.{Fault}
 use Rattle.asm_build.specs.declared.image.Image.{Image}
 use Rattle.asm_build.specs.Shown.{shown}
-use Rattle.job_load.specs.declared.fault.FaultName.TheVariants as fault
-use Rattle.job_load.specs.declared.fault.LoadFault.{LoadFault}
+use Rattle.job_faults.specs.declared.fault.FaultName.TheVariants as fault
+use Rattle.job_faults.specs.declared.fault.LoadFault.{LoadFault}
 use Rattle.asm_build.specs.Text.{assembled}
 use Rattle.tn_base.specs.declared.shape.ShapeNumbers.{ShapeNumbers}
 use Rattle.job_text.specs.declared.job.Job.{Job}
-use Rattle.job_text.specs.declared.job.JobKind.{JobKind}
-use Rattle.job_text.specs.Text.{job_of}
-use Rattle.job_load.specs.declared.map.Mapped.{Mapped}
-use Rattle.job_load.specs.Loaded.{mapped}
-use Rattle.job_load.specs.Names.{fault_of_asm, fault_of_job}
+use Rattle.job_faults.specs.declared.map.Mapped.{Mapped}
+use Rattle.job_faults.specs.Order.{mapped}
+use Rattle.job_faults.specs.Names.{fault_of_asm, job_said}
 use Rattle.map_text.specs.Text.{map_text}
 use Rattle.tn_run.specs.declared.texts.TextCommand.{TextCommand}
 use Rattle.tn_run.specs.declared.texts.TextCommand.TheVariants.{Asm, Map, Show}
@@ -89,9 +87,9 @@ abbrev pub map_by : ShapeNumbers → Result Mapped LoadFault → Result (List �
 map_by n (Ok m) = Ok (map_text m.graph m.placement n m.routes.tables)
 map_by n (Err found) = Err found
 
-abbrev pub map_of : Result Job (Fault JobKind) → Result (List ℕ) LoadFault
+abbrev pub map_of : Result Job LoadFault → Result (List ℕ) LoadFault
 map_of (Ok job) = map_by job.numbers (mapped job)
-map_of (Err found) = Err (fault_of_job found)
+map_of (Err found) = Err found
 
 -- What a command answers.
 
@@ -99,7 +97,7 @@ map_of (Err found) = Err (fault_of_job found)
 abbrev pub made_by : TextCommand → List ℕ → Result (List ℕ) LoadFault
 made_by Asm input = asm_by (assembled 1 input)
 made_by Show input = shown_lines 1 (lines_of input)
-made_by Map input = map_of (job_of (lines_of input))
+made_by Map input = map_of (job_said (lines_of input))
 
 abbrev pub answer_by : Result (List ℕ) LoadFault → Status × List ℕ
 answer_by (Ok text) = (Done, text)

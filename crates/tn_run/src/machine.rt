@@ -15,10 +15,9 @@ use crate::kept::Kept;
 use crate::refusal::refused;
 use crate::report::push_report;
 use job_bag::laws::law_starts;
-use job_load::fault::{LoadFault, LoadStop};
+use job_faults::fault::LoadStop;
+use job_faults::text::job_said;
 use job_load::load::load;
-use job_text::job::JobStop;
-use job_text::read::read_job;
 use std::alloc::{AllocError, Global};
 use tn_bag::laws::law_flight;
 use tn_base::event::{Event, Outcome};
@@ -53,11 +52,8 @@ fn load_input(alloc: Global, input: &[u8]) -> Result<World<PlainLink>, LoadStop>
 {
     law_line_count(input);
     law_starts();
-    match read_job(alloc, input) {
-        Ok(job) => load(alloc, &job),
-        Err(JobStop::Memory) => Err(LoadStop::Memory),
-        Err(JobStop::Fault(fault)) => Err(LoadStop::Fault(LoadFault::of_job(fault))),
-    }
+    let job = job_said(alloc, input)?;
+    load(alloc, &job)
 }
 
 /// How a run ended with its last event, after which the machine is this one, if that event is final.

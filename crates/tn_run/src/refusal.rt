@@ -4,7 +4,7 @@ ghost use Rattle.tn_call.specs.Number.{tells};
 ghost use Rattle.tn_run.specs.Refusal.{refusal_text};
 ghost use Rattle.tn_call.specs.declared.status.Status.TheVariants as Status;
 
-use job_load::fault::LoadFault;
+use job_faults::fault::LoadFault;
 use std::alloc::{AllocError, Global};
 use tn_call::service::Answer;
 use tn_call::status::Status;

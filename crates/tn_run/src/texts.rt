@@ -1,6 +1,6 @@
 //! The commands that read a text and write another.
 ghost use Rattle.std.specs.Prelude.{◌≡◌, ◌≤◌, ◌++◌, true, IfOk, OnOk, length};
-ghost use Rattle.job_load.specs.Loaded.{mapped};
+ghost use Rattle.job_faults.specs.Order.{mapped};
 ghost use Rattle.job_text.specs.Numbered.{AreNumbered};
 ghost use Rattle.job_text.specs.WellFormed.{IsWellFormed};
 ghost use Rattle.tn_call.specs.Number.{tells};
@@ -12,11 +12,11 @@ use crate::refusal::refused;
 use asm_build::assemble::assemble_text;
 use asm_build::show::show;
 use asm_text::fault::AsmStop;
-use job_load::fault::{FaultName, LoadFault, LoadStop};
-use job_load::map::map_graph;
-use job_load::numbers::shape_of;
-use job_text::job::{Job, JobStop};
-use job_text::read::read_job;
+use job_faults::fault::{FaultName, LoadFault, LoadStop};
+use job_faults::map::map_graph;
+use job_faults::numbers::shape_of;
+use job_faults::text::job_said;
+use job_text::job::Job;
 use map_text::print::print_map;
 use std::alloc::{AllocError, Global};
 use tn_call::service::{Answer, Service};
@@ -119,11 +119,8 @@ fn push_map(alloc: Global, text: &mut Vec<u8>, input: &[u8]) -> Result<(), LoadS
     ensures { Becomes result text.new.items (onto text.old.items (made_by TextCommand.Map input.now)) }
 {
     law_line_count(input);
-    match read_job(alloc, input) {
-        Ok(job) => push_mapped(alloc, text, &job),
-        Err(JobStop::Memory) => Err(LoadStop::Memory),
-        Err(JobStop::Fault(fault)) => Err(LoadStop::Fault(LoadFault::of_job(fault))),
-    }
+    let job = job_said(alloc, input)?;
+    push_mapped(alloc, text, &job)
 }
 
 fn push_made(

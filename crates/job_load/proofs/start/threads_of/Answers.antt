@@ -1,7 +1,7 @@
 use Rattle.std.proofs.Common.{◌∙◌, arith}
 use Rattle.tn_base.specs.Address.{in_tile, tile_threads}
 use Rattle.job_load.specs.Start.{thread_over}
-use Rattle.job_load.proofs.Ranges.{more_mapped}
+use Rattle.job_faults.proofs.Ranges.{more_mapped}
 use Rattle.job_load.proofs.Starts.{thread_made}
 use Rattle.job_load.proofs.start.threads_of.Goals as goal
 

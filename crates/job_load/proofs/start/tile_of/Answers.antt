@@ -1,17 +1,17 @@
 use Rattle.std.proofs.Common.{◌∙◌, ◌++◌, ap}
 use Rattle.tn_tile.specs.Kept.{fresh_tile}
-use Rattle.job_load.specs.Code.{code_of}
+use Rattle.job_faults.specs.Code.{code_of}
 use Rattle.job_load.specs.Start.{tile_start}
 use Rattle.job_load.proofs.Starts.{if_made, threads_start, tile_made}
 use Rattle.job_load.proofs.start.tile_of.Goals as goal
 
 pub of-requires-clause-threads : goal.of-requires-clause-threads
-of-requires-clause-threads c = rw c.in_ok-threads.ensures (threads_start c.args.shape.now c.args.images.now c.args.tile.0 c.requires.images.few)
+of-requires-clause-threads c = rw c.in_ok-threads.ensures (threads_start c.args.checked.now.shape c.args.images.now c.args.tile.0 c.requires.images.few)
 
 pub returns : goal.returns
 returns c =
-    let words = c.code_of.ensures ∙ ap (λ sections. code_of (sections ++ c.args.asms.now) c.args.tile.0) c.as_slice.ensures
-    ∙ ap (λ asms. code_of (c.args.job.now.codes ++ asms) c.args.tile.0) c.requires.asms in
-    let made = tile_made c.args.shape.now c.args.job.now c.args.images.now c.args.tile.0 c.code_of.result.now c.in_ok-threads.threads.items
-    c.requires.numbers c.requires.images words c.in_ok-threads.ensures in
-    if_made c.of.result (fresh_tile c.args.shape.now c.args.tile.0 c.code_of.result.now c.in_ok-threads.threads.items) (tile_start c.args.job.now c.args.tile.0) made c.of.ensures
+    let words = c.code_of.ensures ∙ ap (λ sections. code_of (sections ++ c.as_slice-2.result.now) c.args.tile.0) c.as_slice.ensures
+    ∙ ap (λ asms. code_of (c.args.job.now.codes ++ asms) c.args.tile.0) (c.as_slice-2.ensures ∙ c.requires.checked.read.asms) in
+    let made = tile_made c.args.checked.now.shape c.args.job.now c.args.images.now c.args.tile.0 c.code_of.result.now c.in_ok-threads.threads.items
+    c.requires.checked.shape c.requires.images words c.in_ok-threads.ensures in
+    if_made c.of.result (fresh_tile c.args.checked.now.shape c.args.tile.0 c.code_of.result.now c.in_ok-threads.threads.items) (tile_start c.args.job.now c.args.tile.0) made c.of.ensures

@@ -1,0 +1,14 @@
+pub mod Assembly
+pub mod Checked
+pub mod Code
+pub mod Faults
+pub mod Labels
+pub mod Laws
+pub mod Mapping
+pub mod Mixed
+pub mod Names
+pub mod Order
+pub mod ReadTables
+pub mod Room
+pub mod Routed
+pub mod Tables

@@ -1,5 +1,0 @@
-use Rattle.job_load.proofs.First.{first_section}
-use Rattle.job_load.proofs.laws.law_sections.Goals as goal
-
-pub returns : goal.returns
-returns c = first_section
