@@ -49,7 +49,12 @@ threads_are job tile sized = record {
   count = length-map-range_with_len (λ k. thread_start job (in_tile job.numbers tile k)) 0 (tile_threads job.numbers);
   each = λ k h. record {
     image = memory_of job.numbers.mem job.fills (in_tile job.numbers tile k);
+    firmware = None;
+    switch = None;
     fits = let m = sized (in_tile job.numbers tile k) in omega arith;
+    messages = tt;
+    fresh = tt;
+    both = refl;
     start = get_or-map-range_with_len (λ j. thread_start job (in_tile job.numbers tile j)) 0 (tile_threads job.numbers) k k no_thread h (omega arith);
   };
 }

@@ -57,7 +57,12 @@ threads_start n images tile few = record {
   count = length-map-range_with_len (λ k. thread_over n images (in_tile n tile k)) 0 (tile_threads n);
   each = λ k h. record {
     image = image_at images (in_tile n tile k);
+    firmware = None;
+    switch = None;
     fits = few (in_tile n tile k);
+    messages = tt;
+    fresh = tt;
+    both = refl;
     start = get_or-map-range_with_len (λ k. thread_over n images (in_tile n tile k)) 0 (tile_threads n) k k no_thread h (omega arith);
   };
 }

@@ -63,7 +63,7 @@ fn tile_of(
 {
     let threads = threads_of(alloc, &checked.shape, images, tile)?;
     let code = code_of(job.codes.as_slice(), checked.read.asms.as_slice(), tile);
-    Tile::of(alloc, &checked.shape, tile, code, threads)
+    Tile::of(alloc, &checked.shape, tile, code, threads, Vec::new(alloc))
 }
 
 /// A part of this kind.

@@ -4,7 +4,9 @@
 ghost use Rattle.std.specs.Prelude.{◌==◌, IsTrue, Some, None, if◌then◌else◌};
 ghost use Rattle.tn_thread.specs.Command.{FitsCommand};
 
-use std::alloc::Global;
+use polite_switch::device::Device;
+use polite_switch::switch::Switch;
+use std::alloc::{AllocError, Global};
 use std::test::Fail;
 use tn_base::bytes::Bytes;
 use tn_base::effect::Effect;
@@ -25,11 +27,12 @@ use tn_thread::view::View;
 struct Seen {
     can_send: bool,
     first: Option<u16>,
+    key: Option<u16>,
     message: Bytes,
 }
 
 impl View for Seen {
-    ghost sight = { λ v. record { can_send = v.can_send; first = v.first; key = None; held = λ s. if s == 3 then Some v.message else None } };
+    ghost sight = { λ v. record { can_send = v.can_send; first = v.first; key = v.key; held = λ s. if s == 3 then Some v.message else None } };
 
     fn can_send(&self) -> bool {
         self.can_send
@@ -40,7 +43,7 @@ impl View for Seen {
     }
 
     fn key(&self) -> Option<u16> {
-        None
+        self.key
     }
 
     fn held(&self, slot: u16) -> Option<&Bytes> {
@@ -112,12 +115,13 @@ fn look_at(thread: &Thread, op: &Op) -> Became {
     }
 }
 
-/// A tile on which slot 3 holds a message.
+/// A tile on which slot 3 holds a message. A letter's first 16 bits are the number of its slot.
 fn tile(can_send: bool, first: Option<u16>) -> Result<Seen, Fail> {
     let message = Bytes::of(&[1; 16])?;
     Ok(Seen {
         can_send,
         first,
+        key: first,
         message,
     })
 }
@@ -398,5 +402,58 @@ fn answered(alloc: Global, value: u32) -> Result<(u32, bool, u32), Fail> {
 #[test]
 fn answers(rt: HostRuntime) -> Result<(), Fail> {
     assert!(rt; answered(rt.alloc(), 1)? == (1, true, FIRMWARE));
+    Ok(())
+}
+
+/// A softswitch without a device.
+fn no_device(alloc: Global) -> Result<Switch, AllocError> {
+    Switch::of(alloc, Vec::new(alloc), Vec::new(alloc))
+}
+
+/// A softswitch of one device, which has the state at address 64 and is vertex 9.
+fn one_device(alloc: Global) -> Result<Switch, AllocError> {
+    let mut devices = Vec::new(alloc);
+    devices.push(Device {
+        vertex: 9,
+        state: 64,
+        entries: [4, 8, 12, 16, 20],
+        keys: Vec::new(alloc),
+    })?;
+    Switch::of(alloc, devices, Vec::new(alloc))
+}
+
+/// What the first dispatch of a thread has made: what it asked, the thread's address, and ra, sp and a0 to a4.
+fn dispatched(alloc: Global, switch: Switch, view: &Seen) -> Result<(Asks, u32, [u32; 7]), Fail> {
+    let shape = Shape::of(TWO)?;
+    let _numbers = shape.numbers();
+    let mut thread = Thread::start(alloc, &shape, ThreadId(1), &[], Some(1))?;
+    thread.give_switch(switch);
+    let ask = thread.dispatch(view);
+    let op = thread.op_of(ask);
+    let regs = thread.regs();
+    let seen = [
+        regs.get(1),
+        regs.get(2),
+        regs.get(10),
+        regs.get(11),
+        regs.get(12),
+        regs.get(13),
+        regs.get(14),
+    ];
+    Ok((asked(&op), thread.pc(), seen))
+}
+
+/// A dispatch enters the handler init of a device, with its registers. Without a device the thread is idle, or it traps at a letter
+/// whose key has no in-edge.
+#[test]
+fn first_dispatches(rt: HostRuntime) -> Result<(), Fail> {
+    let alloc = rt.alloc();
+    let quiet = tile(true, None)?;
+    let init = (Asks::Nothing, 4, [FIRMWARE, 256, 64, 0, 0, 9, 0]);
+    assert!(rt; dispatched(alloc, one_device(alloc)?, &quiet)? == init);
+    let idle = (Asks::Idle(true), FIRMWARE, [0; 7]);
+    assert!(rt; dispatched(alloc, no_device(alloc)?, &quiet)? == idle);
+    let stray = (Asks::Trap(Trap::BadLocalKey), FIRMWARE, [0; 7]);
+    assert!(rt; dispatched(alloc, no_device(alloc)?, &tile(true, Some(3))?)? == stray);
     Ok(())
 }
