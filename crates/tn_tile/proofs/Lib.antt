@@ -9,6 +9,7 @@ pub mod Marked
 pub mod Moved
 pub mod Packed
 pub mod Packets
+pub mod Handlers
 pub mod Runs
 pub mod Shaped
 pub mod Fresh

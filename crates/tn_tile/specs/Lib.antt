@@ -1,4 +1,5 @@
 pub mod Alone
+pub mod Handlers
 pub mod Inside
 pub mod Kept
 pub mod Passes

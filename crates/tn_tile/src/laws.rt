@@ -4,6 +4,7 @@ ghost use Rattle.std.specs.Prelude.{◌≡◌, ◌≤◌, ◌%◌, ℕ, IsTrue};
 ghost use Rattle.std.specs.Int.{bit_at};
 ghost use Rattle.tn_base.specs.Address.{has_thread, place_in_tile, tile_threads};
 ghost use Rattle.tn_base.specs.Mask.{names_threads};
+ghost use Rattle.tn_tile.specs.Handlers.{HandlersArePrivate};
 ghost use Rattle.tn_tile.specs.Receivers.{packed};
 ghost use Rattle.tn_tile.specs.Turns.{HasShorter};
 
@@ -25,4 +26,9 @@ pub fn law_packed(shape: &Shape, mask: Mask)
 /// If a turn of n steps is possible, so is each shorter turn.
 pub fn law_turns(tile: &Tile, t: ThreadId)
     ensures { HasShorter tile.now t.0 }
+{}
+
+/// A thread with firmware asks nothing of its tile outside of dispatches, and leaves its softswitch as it is.
+pub fn law_handlers()
+    ensures { HandlersArePrivate }
 {}
