@@ -11,9 +11,9 @@ of-requires-clause-threads c = rw (c.new.ensures.items, c.in_ok-threads.ensures)
 
 pub returns : goal.returns
 returns c =
-    let words = c.code_of.ensures ∙ ap (λ sections. code_of (sections ++ c.as_slice-2.result.now) c.args.tile.0) c.as_slice.ensures
+    let words = c.code_of-code.ensures ∙ ap (λ sections. code_of (sections ++ c.as_slice-2.result.now) c.args.tile.0) c.as_slice.ensures
     ∙ ap (λ asms. code_of (c.args.job.now.codes ++ asms) c.args.tile.0) (c.as_slice-2.ensures ∙ c.requires.checked.read.asms) in
-    let made = tile_made c.args.checked.now.shape c.args.job.now c.args.images.now c.args.tile.0 c.code_of.result.now c.in_ok-threads.threads.items
+    let made = tile_made c.args.checked.now.shape c.args.job.now c.args.images.now c.args.tile.0 c.code_of-code.result.now c.in_ok-threads.threads.items
     c.requires.checked.shape c.requires.images words c.in_ok-threads.ensures in
-    let of : IfOk c.of.result (λ (t : TileView). t ≡ fresh_tile c.args.checked.now.shape c.args.tile.0 c.code_of.result.now c.in_ok-threads.threads.items) = rw c.new.ensures.items at c.of.ensures in
-    if_made c.of.result (fresh_tile c.args.checked.now.shape c.args.tile.0 c.code_of.result.now c.in_ok-threads.threads.items) (tile_start c.args.job.now c.args.tile.0) made of
+    let of : IfOk c.of.result (λ (t : TileView). t ≡ fresh_tile c.args.checked.now.shape c.args.tile.0 c.code_of-code.result.now c.in_ok-threads.threads.items) = rw c.new.ensures.items at c.of.ensures in
+    if_made c.of.result (fresh_tile c.args.checked.now.shape c.args.tile.0 c.code_of-code.result.now c.in_ok-threads.threads.items) (tile_start c.args.job.now c.args.tile.0) made of
