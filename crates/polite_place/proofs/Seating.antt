@@ -16,7 +16,7 @@ unfolding seats
 length_seats n outs = length-map-range_with_len (λ v. seat_at n (share_of n (length outs)) (place_in (bfs outs (length outs)) v)) 0 (length outs)
 
 -- the place of a vertex in the order
-pub place_of : List (List ℕ) → ℕ → ℕ
+unfoldable pub place_of : List (List ℕ) → ℕ → ℕ
 place_of outs v = place_in (bfs outs (length outs)) v
 
 pub seat_is : (n : ShapeNumbers) (outs : List (List ℕ)) (v : ℕ) → v < length outs → seat_of (seats n outs) v ≡ seat_at n (share_of n (length outs)) (place_of outs v)
