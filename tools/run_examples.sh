@@ -1,13 +1,14 @@
 #!/usr/bin/env bash
-# Makes the calls of examples/cases.txt, and compares what each call prints, its exit status and its line on standard error with the
-# case's line. Runs ./tinsel, or the program that is given as a word. Fails if a call differs. A case that needs what this machine
-# does not have is skipped.
+# Makes the calls of examples/cases.txt and those of tools/made_jobs.py, and compares what each call prints, its exit status and its
+# line on standard error with the case's line. Runs ./tinsel, or the program that is given as a word. Fails if a call differs. A case
+# that needs what this machine does not have is skipped. Then tools/run_programs.sh runs the programs in C.
 set -u
 top=$(cd "$(dirname "${BASH_SOURCE[0]}")/.." && pwd)
 program=$(realpath "${1:-$top/tinsel}")
 cd "$top/examples" || exit 1
 work=$(mktemp -d) || exit 1
 trap 'rm -rf "$work"' EXIT
+python3 "$top/tools/made_jobs.py" "$work" >"$work/made" || exit 1
 passed=0
 failed=0
 skipped=0
@@ -56,11 +57,11 @@ while IFS='|' read -r words input ended output; do
     echo "tinsel $words < $input: ends with status $status and '$(cat "$work/told")', or prints something else"
     failed=$((failed + 1))
   fi
-done <cases.txt
+done < <(cat cases.txt "$work/made")
 
 # Each job of examples/ is in a case.
 for job in *.job; do
   grep -q "| $job |" cases.txt || { echo "$job is in no case"; failed=$((failed + 1)); }
 done
 echo "examples: $passed passed, $failed failed, $skipped skipped"
-[ "$failed" = 0 ] && [ "$passed" != 0 ]
+"$top/tools/run_programs.sh" "$program" && [ "$failed" = 0 ] && [ "$passed" != 0 ]

@@ -9,3 +9,4 @@ pub mod LoadLemmas
 pub mod Sizes
 pub mod Places
 pub mod Assembly
+pub mod AtWords

@@ -1,5 +1,5 @@
 -- What the laws say.
-use Rattle.std.specs.Prelude.{◌≡◌, ℕ, ℤ, ◌+ℤ◌, List, [], ◌∷◌}
+use Rattle.std.specs.Prelude.{◌≡◌, ℕ, ℤ, ◌+ℤ◌, ◌%◌, List, [], ◌∷◌, Some}
 use Rattle.std.specs.declared.result.Result.{Result}
 use Rattle.std.specs.declared.result.Result.TheVariants.{Ok, Err}
 use Rattle.asm_text.specs.declared.fault.AsmKind.{AsmKind}
@@ -7,7 +7,9 @@ use Rattle.asm_text.specs.Number.{word_number}
 use Rattle.rv_isa.specs.declared.op.Op32.TheVariants.{Lui, Addi}
 use Rattle.asm_build.specs.declared.code.Code.{Code}
 use Rattle.asm_build.specs.declared.code.Code.TheVariants.{Nothing, One, Two}
+use Rattle.asm_build.specs.declared.image.Image.{Image}
 use Rattle.asm_build.specs.Code.{word_for}
+use Rattle.asm_build.specs.Labels.{address_of}
 use Rattle.asm_build.specs.Shown.{shown, shown_text}
 use Rattle.asm_build.specs.Text.{assembled}
 
@@ -29,3 +31,7 @@ Loads rd n (Two first second) =
 abbrev pub IsLoad : ℕ → ℕ → Result Code AsmKind → Type 0
 IsLoad rd n (Ok code) = Loads rd n code
 IsLoad rd n (Err kind) = ⊥
+
+-- the address of a label is that of a word
+abbrev pub EveryLabelIsAtAWord : Type 0
+EveryLabelIsAtAWord = (first : ℕ) (text : List ℕ) (image : Image) (name : List ℕ) (address : ℕ) → assembled first text ≡ Ok image → address_of name image.labels ≡ Some address → address % 4 ≡ 0

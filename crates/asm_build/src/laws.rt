@@ -2,7 +2,7 @@
 
 ghost use Rattle.std.specs.Prelude.{◌<◌, ◌≤◌, length};
 ghost use Rattle.asm_build.specs.Code.{number_code, address_code};
-ghost use Rattle.asm_build.specs.Laws.{ShowsBack, ShowsTextBack, IsLoad};
+ghost use Rattle.asm_build.specs.Laws.{EveryLabelIsAtAWord, IsLoad, ShowsBack, ShowsTextBack};
 
 /// The line that `show` writes of a word is read, with whatever number, and assembled to exactly this word.
 pub fn law_show(_number: u32, _word: u32)
@@ -21,4 +21,9 @@ pub fn law_load(_rd: u8, _number: u32)
     requires { _rd < 32 }
     ensures number { IsLoad _rd _number (number_code _rd _number) }
     ensures address { IsLoad _rd _number (address_code _rd _number) }
+{}
+
+/// Each label of a text has the address of a word, which four divides.
+pub fn law_labels()
+    ensures { EveryLabelIsAtAWord }
 {}

@@ -22,10 +22,10 @@ use tn_base::shape::Shape;
 use tn_detect::detector::Detector;
 use tn_host::host::Host;
 use tn_link::plain::PlainLink;
+use tn_part::part::Part;
 use tn_router::router::Router;
 use tn_thread::thread::Thread;
 use tn_tile::tile::Tile;
-use tn_world::part::Part;
 use tn_world::world::World;
 
 /// The threads of a tile over their images.

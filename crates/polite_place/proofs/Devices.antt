@@ -1,14 +1,15 @@
 -- The devices of a thread are numbered from 0.
-use Rattle.std.proofs.Common.{◌⊎◌, ◌≡◌, ◌≢◌, ◌<◌, ◌≤◌, ℕ, suc, zero, ◌+◌, ◌*◌, ◌/◌, ◌%◌, eqb, cond, Bool, true, false, List, length, get_or, refl, sym, ◌∙◌, ap, arith, inl, inr}
+use Rattle.std.proofs.Common.{◌⊎◌, ◌≡◌, ◌≢◌, ◌<◌, ◌≤◌, ℕ, suc, zero, ◌+◌, ◌*◌, ◌/◌, ◌%◌, eqb, cond, Bool, true, false, List, [], ◌∷◌, length, get_or, refl, sym, ◌∙◌, ap, arith, inl, inr}
 use Rattle.std.proofs.lemmas.Bool.Decides.{nat_tests}
 use Rattle.std.proofs.lemmas.Nat.{div-add-mod', div-mul-add, mod_below}
 use Rattle.tn_base.specs.declared.shape.ShapeNumbers.{ShapeNumbers}
 use Rattle.tn_base.specs.Address.{thread_at}
 use Rattle.tn_base.specs.Shape.{thread_count}
-use Rattle.tn_sums.specs.Totals.{total}
+use Rattle.tn_sums.specs.Totals.{total, weigh}
 use Rattle.tn_sums.proofs.Laws.{total-plus, total-suc, total_nothing, total_one, total_same, total_zero}
 use Rattle.polite_place.specs.declared.placement.Seat.{Seat}
 use Rattle.polite_place.specs.Order.{AllListsBelow, bfs}
+use Rattle.polite_place.specs.Roster.{Lists, vertices_on, weight_on}
 use Rattle.polite_place.specs.Seats.{Numbered, Seated, device_on, devices_on, seat, seat_at, seat_of, seats, share_of}
 use Rattle.polite_place.proofs.Adds.{all_below_at}
 use Rattle.polite_place.proofs.Apart.{apart, place_back}
@@ -199,3 +200,16 @@ numbered n outs per threads a room = record {
       omega arith;
   few = λ a'. few_devices n per (seats n outs) a' (seated n outs per threads a room);
 }
+
+-- The roster lists the devices.
+
+ones : (xs : List ℕ) → weigh (λ v. 1) xs ≡ length xs
+ones [] = refl
+ones (x ∷ xs) = let r = ones xs in omega arith
+
+pub devices_listed : (n : ShapeNumbers) (outs : List (List ℕ)) (i : ℕ) → Lists n outs → i < thread_count n → devices_on (seats n outs) (thread_at n i) ≡ length (vertices_on n outs i)
+devices_listed n outs i l h =
+    ap (total (device_on (seats n outs) (thread_at n i))) (length_seats n outs)
+    ∙ total_same (device_on (seats n outs) (thread_at n i)) (weight_on n outs (λ v. 1) (thread_at n i)) (length outs) (λ v less. refl)
+    ∙ sym (l.weights (λ v. 1) i h)
+    ∙ ones (vertices_on n outs i)

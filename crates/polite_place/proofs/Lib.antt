@@ -4,6 +4,7 @@ pub mod Counts
 pub mod Devices
 pub mod Firsts
 pub mod Gathering
+pub mod Rosters
 pub mod Scans
 pub mod Seating
 pub mod Shares

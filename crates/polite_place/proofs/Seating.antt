@@ -40,18 +40,18 @@ pub record Threads (n : ShapeNumbers) : Type 0 where
   pub listed : (i : ℕ) → i < thread_count n → IsTrue (has_thread n (thread_at n i))
   pub ascending : (i j : ℕ) → i < j → j < thread_count n → thread_at n i < thread_at n j
 
-thread_apart : (n : ShapeNumbers) (i j : ℕ) → Threads n → i < thread_count n → j < thread_count n → thread_at n i ≡ thread_at n j → (i < j) ⊎ (j ≤ i) → (j < i) ⊎ (i ≤ j) → i ≡ j
+pub thread_apart : (n : ShapeNumbers) (i j : ℕ) → Threads n → i < thread_count n → j < thread_count n → thread_at n i ≡ thread_at n j → (i < j) ⊎ (j ≤ i) → (j < i) ⊎ (i ≤ j) → i ≡ j
 thread_apart n i j t hi hj e (inl less) _ = let a = t.ascending i j less hj in absurd (omega arith)
 thread_apart n i j t hi hj e (inr ge) (inl less) = let a = t.ascending j i less hi in absurd (omega arith)
 thread_apart n i j t hi hj e (inr ge) (inr le) = omega arith
 
-order_of : (i j : ℕ) → (i < j) ⊎ (j ≤ i)
+pub order_of : (i j : ℕ) → (i < j) ⊎ (j ≤ i)
 order_of i j = grind arith
 
-abbrev Below : ShapeNumbers → List (List ℕ) → ℕ → Type 0
+abbrev pub Below : ShapeNumbers → List (List ℕ) → ℕ → Type 0
 Below n outs v = place_of outs v / share_of n (length outs) < thread_count n
 
-below : (n : ShapeNumbers) (outs : List (List ℕ)) (v : ℕ) → Threads n → AllListsBelow (length outs) outs → v < length outs → Below n outs v
+pub below : (n : ShapeNumbers) (outs : List (List ℕ)) (v : ℕ) → Threads n → AllListsBelow (length outs) outs → v < length outs → Below n outs v
 below n outs v t a h =
     let l = place_below outs v a h in
     let e = enough (length outs) (thread_count n) t.some in

@@ -1,4 +1,5 @@
 pub mod Order
 pub mod Outs
+pub mod Roster
 pub mod Scan
 pub mod Seats

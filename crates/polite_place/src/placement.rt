@@ -5,7 +5,7 @@ ghost use Rattle.tn_base.specs.Shape.{WithinLimits, thread_count};
 ghost use Rattle.polite_place.specs.Order.{AllListsBelow, Once, bfs};
 ghost use Rattle.graph_text.specs.Graph.{IsGraph};
 ghost use Rattle.polite_place.specs.Outs.{outs_of};
-ghost use Rattle.polite_place.specs.Seats.{Places, Seated, placed, seat, seat_at, seat_of, seats};
+ghost use Rattle.polite_place.specs.Seats.{Places, Seated, placed, seat, seat_at, seat_of, seats, share_of};
 
 use crate::laws::law_seats;
 use crate::order::{OutList, breadth_first};
@@ -85,6 +85,15 @@ fn count_threads(shape: &Shape) -> usize
     shape.thread_count() as usize
 }
 
+/// How many vertices each thread takes: their number by that of the threads, rounded up.
+pub(crate) fn share_of(shape: &Shape, count: usize) -> u32
+    requires { count ≤ 65536 }
+    ensures { result ≡ share_of shape.now count }
+{
+    let threads = count_threads(shape);
+    ((count + threads - 1) / threads) as u32
+}
+
 /// Gives the vertices their seats, in order.
 fn take_seats(shape: &Shape, order: &[u32], share: usize, seats: &mut [Seat])
     requires once { Once (length seats.old) order.now }
@@ -124,7 +133,7 @@ fn place_outs(
         device: 0,
     };
     let mut list = vec![in alloc; nowhere; count]?;
-    let share = (count + threads - 1) / threads;
+    let share = share_of(shape, count) as usize;
     take_seats(shape, order.as_slice(), share, list.as_mut_slice());
     Ok(Placement { seats: list })
 }

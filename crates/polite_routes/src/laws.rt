@@ -1,9 +1,12 @@
 //! Laws of routes. A law answers nothing: its contract is what it says.
 
-ghost use Rattle.std.specs.Prelude.{◌≡◌, ◌≤◌, ◌<◌, ℕ, List, Ok, length};
+ghost use Rattle.std.specs.Prelude.{◌≡◌, ◌≤◌, ◌<◌, ℕ, List, [], Ok, length, slice_index_or};
+ghost use Rattle.tn_base.specs.Shape.{thread_count};
 ghost use Rattle.graph_text.specs.Graph.{IsGraph};
 ghost use Rattle.polite_place.specs.Outs.{outs_of};
+ghost use Rattle.polite_place.specs.Roster.{vertices_on};
 ghost use Rattle.polite_place.specs.Seats.{Numbered, Seated, devices_on, placed};
+ghost use Rattle.polite_switch.specs.Device.{AllNamed};
 ghost use Rattle.polite_routes.specs.declared.routes.RouteSet.{RouteSet};
 ghost use Rattle.polite_routes.specs.Answer.{AllServed, KeyedByEdges, routes_of};
 ghost use Rattle.polite_routes.specs.declared.target.Pin.{Pin};
@@ -52,6 +55,8 @@ pub fn law_devices(shape: &Shape, graph: &Graph, placement: &Placement)
     requires graph { IsGraph graph.now }
     requires placement { Ok placement.now ≡ placed shape.now graph.now.per_thread (outs_of graph.now) }
     ensures lead { (set : RouteSet) → Ok set ≡ routes_of shape.now graph.now placement.now → AllLead shape.now graph.now placement.now set }
+    ensures roster { (set : RouteSet) (i : ℕ) → Ok set ≡ routes_of shape.now graph.now placement.now → i < thread_count shape.now →
+        AllNamed (length (vertices_on shape.now (outs_of graph.now) i)) (slice_index_or set.in_edges i []) }
     ensures few { (a : ℕ) → devices_on placement.now a ≤ 64 }
     ensures numbered { Numbered graph.now.per_thread placement.now }
 {

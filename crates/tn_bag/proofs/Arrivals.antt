@@ -110,22 +110,7 @@ none_dropped w l p false e = refl
 pub arrival_not : (w : WorldView) (l p : PartId) → option_and_then tile_of (slice_get w.parts p.0) ≡ None → event_steps (event.Arrive l p) w ≡ []
 arrival_not w l p e = none_dropped w l p (leads_to p.0 (kind_of w.shape l.0)) e
 
--- ---- an announcement
-
--- a part that announces is the detector
-announces : (reach : Reach) (x : Option PartView) → is_some (option_and_then (after event.Announce crossing.None) x) ≡ true → part_steps reach event.Announce x ≡ bag.Announce ∷ []
-announces reach None e = cc e
-announces reach (Some (TileV v)) e = cc e
-announces reach (Some (RouterV v)) e = cc e
-announces reach (Some (LinkV v)) e = cc e
-announces reach (Some (HostV h)) e = cc e
-announces reach (Some (DetectorV d)) e = refl
-announces reach (Some AbsentV) e = cc e
-
-pub announcement_is : (w : WorldView) → is_some (happened event.Announce w) ≡ true → event_steps event.Announce w ≡ bag.Announce ∷ []
-announcement_is w e =
-    let at : Option PartView = slice_get w.parts (detector_part w.shape) in
-    announces (reach_of w) at (some_of (with_part w (detector_part w.shape)) (option_and_then (after event.Announce crossing.None) at) e)
+-- ---- memory
 
 -- what a call that had memory did, read otherwise
 pub on_ok : {T E P Q : Type 0} (r : Result T E) → (P → Q) → OnOk r P → OnOk r Q

@@ -15,8 +15,8 @@ use tn_base::message::{Letter, Packet};
 use tn_base::port::Port;
 use tn_letters::place::Place;
 use tn_link::link::Link;
+use tn_part::part::Part;
 use tn_tile::tile::Tile;
-use tn_world::part::Part;
 use tn_world::world::World;
 
 /// The ports in the order in which the letters of a part are listed.

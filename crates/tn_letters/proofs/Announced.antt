@@ -1,5 +1,5 @@
 -- An announcement of the detector is an announcement of the bag machine.
-use Rattle.std.proofs.Common.{ℕ, ◌≡◌, ◌≢◌, ◌+◌, List, get_or, set, refl, sym, ◌∙◌, ap, subst, arith, IsTrue, Some}
+use Rattle.std.proofs.Common.{ℕ, ◌≡◌, ◌≢◌, ◌+◌, List, [], ◌∷◌, get_or, map, set, refl, sym, ◌∙◌, ap, subst, arith, IsTrue, Some}
 use Rattle.std.specs.Prelude.{count_by}
 use Rattle.std.proofs.lemmas.List.{get_or-map, get_or-set_other, get_or-set_same}
 use Rattle.tn_base.specs.declared.event.Event.TheVariants as event
@@ -25,11 +25,13 @@ use Rattle.tn_rows.specs.Places.{detector_part}
 use Rattle.tn_rows.specs.WorldView.{WorldView}
 use Rattle.tn_tile.specs.Rows.{told}
 use Rattle.tn_tile.specs.Step.{no_thread, thread_at}
+use Rattle.tn_letters.specs.declared.place.Place.{Place}
 use Rattle.tn_letters.specs.declared.steps.BagStep.{BagStep}
+use Rattle.tn_letters.specs.AtRest.{IsResting, told_value, voted}
 use Rattle.tn_letters.specs.Law.{dropped_in}
 use Rattle.tn_letters.specs.Machine.{announced, answer}
 use Rattle.tn_letters.specs.Settled.{detector_in, detector_on, released_from, released_part, settled, settled_in}
-use Rattle.tn_letters.specs.Standing.{standing_letters}
+use Rattle.tn_letters.specs.Standing.{standing, standing_letters}
 use Rattle.tn_letters.specs.State.{Same}
 use Rattle.tn_letters.specs.Steps.{event_steps, part_steps}
 use Rattle.tn_letters.specs.Tiles.{host_in, host_on, part_for, program_of, reach_of, thread_of, tile_in}
@@ -93,17 +95,48 @@ announces_so got dropped k w v t value g on learns =
       announcements = let e : 0 + k + 1 ≡ 0 + (k + 1) = omega arith in e;
     }
 
+-- before an announcement all parts are confirmed
+announce_phase : (w new : WorldView) → Good w → IsQuietWorld w → (a : Alone w new deed.Announce) → (rest_of w).detector.phase ≡ phase.Confirm (visited w.shape)
+announce_phase w new g q a =
+    let u = announce_tells a.detector.visited a.detector.now a.behind a.does in
+    ap (λ (d : DetectorState). d.phase) (rest_detector w g ∙ detector_is w a.detector a.detector_on) ∙ (u.phase ∙ ap phase.Confirm (detector_visits w a.detector q g a.detector_on))
+
+-- so all parts are still and all links are empty, and the votes of all parts are noted
+pub rest_before : (w new : WorldView) → Good w → IsQuietWorld w → happened event.Announce w ≡ Some new → IsRest (visited w.shape) (link_count w.shape) (rest_of w)
+rest_before w new g q h = rest_at (visited w.shape) (link_count w.shape) (rest_of w) q.quiet (announce_phase w new g q (alone event.Announce deed.Announce w new g h refl))
+
+none_listed : (xs : List (Place × Letter)) → map (λ (q : Place × Letter). q.1) xs ≡ [] → xs ≡ []
+none_listed [] e = refl
+none_listed (x ∷ xs) e = cc e
+
+pub resting : (w : WorldView) → Good w → IsRest (visited w.shape) (link_count w.shape) (rest_of w) → IsResting w
+resting w g rest = let r = at_rest (λ a. []) [] w g rest in record { threads = r.threads; letters = none_listed (standing w) r.flight; host = r.host }
+
+-- the detector's answer after an announcement is that of all parts
+pub answer_is : (w new : WorldView) → Good w → IsQuietWorld w → happened event.Announce w ≡ Some new → (detector_on new).answer ≡ Some (answer_of (notes_of (rest_of w).part (visited w.shape)))
+answer_is w new g q h =
+    let a : Alone w new deed.Announce = alone event.Announce deed.Announce w new g h refl in
+    let s = a.detector.now in
+    let u = announce_tells a.detector.visited s a.behind a.does in
+    let t = detector_with_now a.detector a.behind in
+    let next : detector_on (with_parts w (set w.parts (detector_part w.shape) (DetectorV t))) ≡ detector_announced s = ap detector_in (get_or-set_same w.parts (detector_part w.shape) (DetectorV t) AbsentV a.detector_on.within) ∙ u.is in
+    let noted : s.noted ≡ notes_of (rest_of w).part (visited w.shape) =
+    sym (ap (λ (d : DetectorState). d.noted) (rest_detector w g ∙ detector_is w a.detector a.detector_on)) ∙ noted_at (visited w.shape) (link_count w.shape) (rest_of w) q.quiet (announce_phase w new g q a) in
+    ap (λ (x : WorldView). (detector_on x).answer) a.is ∙ (ap (λ (d : DetectorState). d.answer) next ∙ ap (λ n. Some (answer_of n)) noted)
+
+pub told_votes : (w new : WorldView) → Good w → IsQuietWorld w → happened event.Announce w ≡ Some new → told_value new ≡ voted w
+told_votes w new g q h = ap value_of (answer_is w new g q h) ∙ value_same w g
+
 pub announce_arrives : (got : ℕ → List Letter) (dropped : List Letter) (k : ℕ) (w new : WorldView) → Good w → IsQuietWorld w → happened event.Announce w ≡ Some new → Arrives got dropped k w (event_steps event.Announce w) new
 announce_arrives got dropped k w new g q h =
     let a : Alone w new deed.Announce = alone event.Announce deed.Announce w new g h refl in
     let s = a.detector.now in
     let u = announce_tells a.detector.visited s a.behind a.does in
     let now : detector_on w ≡ s = detector_is w a.detector a.detector_on in
-    let all : a.detector.visited ≡ visited w.shape = detector_visits w a.detector q g a.detector_on in
     let n = visited w.shape in
     let m = link_count w.shape in
     let seen : (rest_of w).detector ≡ s = rest_detector w g ∙ now in
-    let ph : (rest_of w).detector.phase ≡ phase.Confirm n = ap (λ (d : DetectorState). d.phase) seen ∙ (u.phase ∙ ap phase.Confirm all) in
+    let ph : (rest_of w).detector.phase ≡ phase.Confirm n = announce_phase w new g q a in
     let rest : IsRest n m (rest_of w) = rest_at n m (rest_of w) q.quiet ph in
     let noted : s.noted ≡ notes_of (rest_of w).part n = sym (ap (λ (d : DetectorState). d.noted) seen) ∙ noted_at n m (rest_of w) q.quiet ph in
     let t = detector_with_now a.detector a.behind in

@@ -66,7 +66,7 @@ none_reported n k = by n k
     by (suc n) zero = refl
     by (suc n) (suc k) = by n k
 
-rest_start : (w : WorldView) → IsStart w → Good w → IsRestStart (visited w.shape) (rest_of w)
+pub rest_start : (w : WorldView) → IsStart w → Good w → IsRestStart (visited w.shape) (rest_of w)
 rest_start w s g =
     let n : ShapeNumbers = w.shape in
     let last = last_part w g in

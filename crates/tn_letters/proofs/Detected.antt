@@ -19,7 +19,7 @@ use Rattle.tn_quiet.specs.Law.{IsQuietWorld}
 use Rattle.tn_quiet.specs.Machine.{link_count}
 use Rattle.tn_quiet.proofs.Detectors.{detector_does}
 use Rattle.tn_quiet.proofs.Machines.{WithDetector, at_one, by_detector}
-use Rattle.tn_quiet.proofs.PartKinds.{detector_last}
+use Rattle.tn_rows.proofs.HostLinks.{detector_last}
 use Rattle.tn_quiet.proofs.Parts.{IsDetectorPart, IsVisitedPart, confirm_part, go_part, release_part, report_part}
 use Rattle.tn_quiet.proofs.Tiles.{kept_by}
 use Rattle.tn_router.specs.declared.state.RouterState.{RouterState}

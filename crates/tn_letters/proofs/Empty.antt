@@ -22,7 +22,7 @@ use Rattle.tn_node.proofs.PortLaws.{empty_at}
 use Rattle.tn_node.specs.PortRows.{all_empty}
 use Rattle.tn_quiet.specs.Machine.{link_count, rest_of, shown as shown_parts, shows}
 use Rattle.tn_quiet.proofs.Machines.{at_last}
-use Rattle.tn_quiet.proofs.PartKinds.{detector_last}
+use Rattle.tn_rows.proofs.HostLinks.{detector_last}
 use Rattle.tn_rest.specs.declared.facts.Facts.{Facts}
 use Rattle.tn_rest.specs.Quiet.{IsAtRest as IsRest}
 use Rattle.tn_rest.specs.Seen.{facts_of, no_facts, packets_of}

@@ -1,4 +1,5 @@
 pub mod Announced
+pub mod Answering
 pub mod Arrives
 pub mod Bare
 pub mod Becomes
@@ -11,6 +12,7 @@ pub mod Delivery
 pub mod Detected
 pub mod Empty
 pub mod EventParts
+pub mod EventSteps
 pub mod Fitting
 pub mod GoodParts
 pub mod Holding
@@ -21,6 +23,7 @@ pub mod Lift
 pub mod Links
 pub mod Meaning
 pub mod Moves
+pub mod Over
 pub mod PartKinds
 pub mod Receivers
 pub mod Routers
@@ -36,6 +39,7 @@ pub mod Slots
 pub mod Starts
 pub mod Sums
 pub mod Threads
+pub mod Unanswered
 pub mod Votes
 pub mod Waiting
 pub mod Walks

@@ -16,7 +16,8 @@ use Rattle.tn_node.specs.declared.facts.PartFacts.{PartFacts}
 use Rattle.tn_node.specs.Deed.{Deed}
 use Rattle.tn_node.specs.Deed as deed
 use Rattle.tn_quiet.specs.Law.{IsQuietWorld}
-use Rattle.tn_quiet.proofs.PartKinds.{IsBehind, behind_kind, detector_last}
+use Rattle.tn_rows.proofs.HostLinks.{detector_last}
+use Rattle.tn_rows.proofs.PartKinds.{IsBehind, behind_kind}
 use Rattle.tn_rest.proofs.RowsTell.{begin_tells, confirm_tells, go_tells, release_tells, report_tells}
 use Rattle.tn_rows.specs.DetectorDeed.{view_of}
 use Rattle.tn_rows.specs.Events.{FitsKind}

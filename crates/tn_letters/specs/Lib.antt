@@ -1,3 +1,4 @@
+pub mod AtRest
 pub mod Conserved
 pub mod Law
 pub mod Letters

@@ -1,5 +1,6 @@
 //! Laws of runs. A law answers nothing: its contract is what it says.
 
+ghost use Rattle.tn_letters.specs.AtRest.{EveryHistoryAnswersAtRest};
 ghost use Rattle.tn_letters.specs.Conserved.{EveryRunConserves, EveryRunHands, EveryRunHandsTheHost};
 ghost use Rattle.tn_letters.specs.Law.{EveryRunIsBagRun};
 ghost use Rattle.tn_letters.specs.NextStep.{EveryAnswerIsRead, EveryAnswerWaits, EveryIdleThreadIsAnswered};
@@ -20,6 +21,13 @@ pub fn law_answers()
     ensures waits { EveryAnswerWaits }
     ensures read { EveryAnswerIsRead }
     ensures machines { EveryIdleThreadIsAnswered }
+{}
+
+/// Whatever events happen to a machine from its start, each announcement comes at rest and tells what the votes give. An announcement
+/// ends the run if and only if every thread has ended and the host's script is at its end. Each thread that was idle at an announcement
+/// has the announced value when it makes its next turn, and no thread has another answer.
+pub fn law_rest()
+    ensures { EveryHistoryAnswersAtRest }
 {}
 
 /// Letters are conserved in each run of the bag machine: those that were in flight and those that its steps sent are those

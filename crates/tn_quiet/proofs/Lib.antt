@@ -3,7 +3,6 @@ pub mod Hosts
 pub mod Lists
 pub mod Machines
 pub mod OpenMachines
-pub mod PartKinds
 pub mod Parts
 pub mod Routers
 pub mod Runs

@@ -34,7 +34,8 @@ use Rattle.tn_stamp.specs.declared.entry.Crossing.TheVariants as crossing
 use Rattle.tn_quiet.specs.Law.{IsStep}
 use Rattle.tn_quiet.specs.Machine.{link_count, link_number, shown, shows}
 use Rattle.tn_quiet.proofs.Lists.{both_only, high_becomes, low_becomes, one_becomes, one_only}
-use Rattle.tn_quiet.proofs.PartKinds.{IsBehind, IsVisited, behind_kind, detector_last, visited_kind}
+use Rattle.tn_rows.proofs.HostLinks.{detector_last}
+use Rattle.tn_rows.proofs.PartKinds.{IsBehind, IsVisited, behind_kind, visited_kind}
 use Rattle.tn_quiet.proofs.Parts.{Did, Emptier, Fuller, IsDetectorPart, IsLink, IsVisitedPart, announce_did, arrive_emptier, begin_did, confirm_detector, confirm_part, deliver_did, depart_fuller, give_did, go_detector, go_part, host_put_did, host_take_did, put_fuller_link, release_detector, release_part, report_detector, report_part, route_did, take_did, take_emptier_link, turn_did}
 use Rattle.tn_quiet.proofs.Tiles.{kept_by}
 

@@ -44,7 +44,8 @@ use Rattle.tn_quiet.specs.Machine.{link_count, rest_of, shown, shows}
 use Rattle.tn_quiet.proofs.Detectors.{detector_can}
 use Rattle.tn_quiet.proofs.Lists.{shown_at}
 use Rattle.tn_quiet.proofs.Machines.{at_last, visited_is_visited}
-use Rattle.tn_quiet.proofs.PartKinds.{detector_last, visited_kind}
+use Rattle.tn_rows.proofs.HostLinks.{detector_last}
+use Rattle.tn_rows.proofs.PartKinds.{visited_kind}
 use Rattle.tn_quiet.proofs.Parts.{IsVisitedPart}
 
 -- a value that is there

@@ -6,3 +6,4 @@ pub mod RowsTell
 pub mod Runs
 pub mod Seen
 pub mod Totals
+pub mod Tested

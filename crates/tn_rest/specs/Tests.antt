@@ -1,17 +1,27 @@
--- A list of parts and a list of reports, as tests of the invariant read them.
-use Rattle.std.specs.Prelude.{ℕ, ℤ, pos, false, cond, nat_lt, List, Option, slice_index_or}
-use Rattle.tn_detect.specs.Reports.{number_of, report_at}
+-- The detector's invariant as its test takes it apart: what is said of each part with its report, and what is said of all parts together.
+use Rattle.std.specs.Prelude.{ℕ, ◌<◌, ◌≤◌, ◌≡◌, ◌⊎◌, true, false, nat_lt, nat_le, ℤ, pos, Option, None, IsSome}
+use Rattle.tn_sums.specs.Totals.{total}
+use Rattle.tn_detect.specs.declared.phase.Phase.{Phase}
+use Rattle.tn_detect.specs.declared.phase.Phase.TheVariants.{Collect, Confirm, Release, Go}
+use Rattle.tn_detect.specs.Reports.{sum_int}
 use Rattle.tn_rest.specs.declared.facts.Facts.{Facts}
+use Rattle.tn_rest.specs.Quiet.{HasBlack, IsPositive, IsSound, IsVerified, mixed}
+use Rattle.tn_rest.specs.RestView.{RestView}
 
-abbrev pub no_part : Facts
-no_part = record { view = record { still = false; black = false; counter = pos 0; live = false; votes = false; at_end = false }; held = false }
+-- part k with this report is as the invariant wants it in a phase
+abbrev pub Fits : Phase → ℕ → Facts → Option ℤ → Type 0
+Fits Collect k p r = (p.held ≡ false) × IsSound p r
+Fits (Confirm i) k p r = (p.held ≡ false) × IsSome r × IsSound p r
+Fits (Release i) k p r = (p.held ≡ nat_lt k i) × (r ≡ None) × (i ≤ k → p.view.still ≡ true)
+Fits (Go i) k p r = (p.held ≡ nat_le i k) × (r ≡ None)
 
-abbrev pub part_in : List Facts → ℕ → Facts
-part_in parts k = slice_index_or parts k no_part
+-- why a look at part i does not lead to a wrong announcement
+abbrev pub HasReason : ℕ → ℕ → RestView → Type 0
+HasReason i n w = IsVerified i w ⊎ (IsPositive i n w ⊎ HasBlack i n w)
 
-abbrev pub counter_in : List Facts → ℕ → ℤ
-counter_in parts k = (part_in parts k).view.counter
-
--- the number of the report of part k, if k is below i, else the counter of part k
-abbrev pub mixed_in : List Facts → List (Option ℤ) → ℕ → ℕ → ℤ
-mixed_in parts reports i k = cond (nat_lt k i) (number_of (report_at reports k)) (counter_in parts k)
+-- what the invariant says of all parts together in a phase
+abbrev pub HoldsIn : Phase → ℕ → ℕ → RestView → Type 0
+HoldsIn Collect n m w = Unit {0}
+HoldsIn (Confirm i) n m w = (i ≤ n) × (sum_int (mixed n w) n ≡ pos 0) × HasReason i n w
+HoldsIn (Release i) n m w = (i < n) × (total w.link m ≡ 0)
+HoldsIn (Go i) n m w = i < n

@@ -1,14 +1,34 @@
-//! Tests of the detector's invariant.
+//! The test of the detector's invariant.
 
-ghost use Rattle.std.specs.Prelude.{◌≡◌, ◌≤◌, ◌<◌, ◌^◌, ◌↔◌, ℕ, ℤ, Option, true, IsTrue, length};
-ghost use Rattle.tn_detect.specs.Reports.{report_at, sum_int};
-ghost use Rattle.tn_rest.specs.Quiet.{IsSound};
-ghost use Rattle.tn_rest.specs.Tests.{counter_in, mixed_in, part_in};
+ghost use Rattle.std.specs.Prelude.{◌≡◌, ◌≤◌, ◌<◌, ◌↔◌, ℕ, false, IsTrue};
+ghost use Rattle.tn_detect.specs.Reports.{number_of};
+ghost use Rattle.tn_rest.specs.Quiet.{HasBlack, IsCalm, IsQuiet, IsSound, IsVerified, report_of};
+ghost use Rattle.tn_rest.specs.Tests.{Fits, HasReason, HoldsIn};
 
 use crate::facts::Facts;
+use crate::machine::Machine;
+use crate::sums::{are_balanced, mixed, packets};
+use tn_detect::facts::Noted;
+use tn_detect::phase::Phase;
 
-/// Whether a part with this report is black, or it is still and its counter is its report.
-pub fn is_sound(part: &Facts, report: Option<i64>) -> bool
+/// Whether the detector's invariant holds of a machine.
+pub fn audit<M: Machine>(machine: &M) -> bool
+    ensures { IsTrue result ↔ IsQuiet (M.visited machine.now) (M.links machine.now) (M.seen machine.now) }
+{
+    if machine.places() != machine.visited() {
+        return false;
+    }
+    if !are_balanced(machine) {
+        return false;
+    }
+    if !all_fit(machine) {
+        return false;
+    }
+    holds_in_phase(machine)
+}
+
+/// Whether a part is black, or still with its counter as its report. Of a part without a report nothing is asked.
+fn is_sound(part: &Facts, report: Option<i64>) -> bool
     ensures { IsTrue result ↔ IsSound part.now report }
 {
     match report {
@@ -17,63 +37,83 @@ pub fn is_sound(part: &Facts, report: Option<i64>) -> bool
     }
 }
 
-/// Whether this holds of each part with its report.
-pub fn are_sound(parts: &[Facts], reports: &[Option<i64>]) -> bool
-    requires { length reports.now ≡ length parts.now }
-    ensures { IsTrue result ↔ ((k : ℕ) → k < length parts.now → IsSound (part_in parts.now k) (report_at reports.now k)) }
+/// Whether part k with this report is as the invariant wants it in a phase.
+fn fits(phase: Phase, k: u32, part: &Facts, report: Option<i64>) -> bool
+    ensures { IsTrue result ↔ Fits phase k part.now report }
 {
-    for (index, part) in parts.iter().enumerate() {
-        if !is_sound(part, reports[index]) {
+    match phase {
+        Phase::Collect => !part.held && is_sound(part, report),
+        Phase::Confirm(_) => !part.held && report.is_some() && is_sound(part, report),
+        Phase::Release(i) => {
+            part.held == (k < i) && report.is_none() && (k < i || part.view.still)
+        }
+        Phase::Go(i) => part.held == (i <= k) && report.is_none(),
+    }
+}
+
+/// Whether each visited part is so.
+fn all_fit<M: Machine>(machine: &M) -> bool
+    ensures { IsTrue result ↔ ((k : ℕ) → k < M.visited machine.now → Fits (M.seen machine.now).detector.phase k ((M.seen machine.now).part k) (report_of (M.seen machine.now) k)) }
+{
+    let phase = machine.phase();
+    for k in 0..machine.visited() {
+        if !fits(phase, k, &machine.part(k), machine.report(k)) {
             return false;
         }
     }
     true
 }
 
-/// What the counters of at most 2^32 parts sum to.
-pub fn counted(parts: &[Facts]) -> i128
-    requires { length parts.now ≤ 2 ^ 32 }
-    ensures { result ≡ sum_int (counter_in parts.now) (length parts.now) }
+/// Whether what the invariant says of all parts together in the detector's phase holds.
+fn holds_in_phase<M: Machine>(machine: &M) -> bool
+    ensures { IsTrue result ↔ HoldsIn (M.seen machine.now).detector.phase (M.visited machine.now) (M.links machine.now) (M.seen machine.now) }
 {
-    let mut sum: i128 = 0;
-    for part in parts {
-        sum += i128::from(part.view.counter);
+    let visited = machine.visited();
+    match machine.phase() {
+        Phase::Collect => true,
+        Phase::Confirm(i) => i <= visited && mixed(machine, visited) == 0 && has_reason(machine, i),
+        Phase::Release(i) => i < visited && packets(machine) == 0,
+        Phase::Go(i) => i < visited,
     }
-    sum
 }
 
-/// What the reports of the parts below `below` and the counters of the others sum to.
-pub fn mixed(parts: &[Facts], reports: &[Option<i64>], below: usize) -> i128
-    requires places { length reports.now ≡ length parts.now }
-    requires few { length parts.now ≤ 2 ^ 32 }
-    ensures { result ≡ sum_int (mixed_in parts.now reports.now below) (length parts.now) }
+/// Whether it is known why the counters are as reported, or why the detector will not announce, with part i next to be confirmed.
+fn has_reason<M: Machine>(machine: &M, i: u32) -> bool
+    requires { i ≤ M.visited machine.now }
+    ensures { IsTrue result ↔ HasReason i (M.visited machine.now) (M.seen machine.now) }
 {
-    let mut sum: i128 = 0;
-    for index in 0..parts.len() {
-        sum += i128::from(mixed_at(parts, reports, below, index));
-    }
-    sum
+    is_verified(machine, i) || mixed(machine, i) > 0 || has_black(machine, i)
 }
 
-/// What a part adds to that sum.
-fn mixed_at(parts: &[Facts], reports: &[Option<i64>], below: usize, index: usize) -> i64
-    requires places { length reports.now ≡ length parts.now }
-    requires inside { index < length parts.now }
-    ensures { result ≡ mixed_in parts.now reports.now below index }
+/// Whether each part below `below` is white and did nothing since it reported, and what these parts show is noted.
+fn is_verified<M: Machine>(machine: &M, below: u32) -> bool
+    requires { below ≤ M.visited machine.now }
+    ensures { IsTrue result ↔ IsVerified below (M.seen machine.now) }
 {
-    if index < below {
-        reports[index].unwrap_or(0)
-    } else {
-        parts[index].view.counter
+    let mut noted = Noted::nothing();
+    for k in 0..below {
+        let part = machine.part(k);
+        if !is_verified_part(&part, machine.report(k)) {
+            return false;
+        }
+        noted = noted.with(&part.view);
     }
+    noted == machine.noted()
+}
+
+/// Whether a part with this report is white and did nothing since it reported.
+fn is_verified_part(part: &Facts, report: Option<i64>) -> bool
+    ensures { IsTrue result ↔ (IsCalm part.now (number_of report) × (part.now.view.black ≡ false)) }
+{
+    !part.view.black && part.view.still && part.view.counter == report.unwrap_or(0)
 }
 
 /// Whether a part from `from` on is black.
-pub fn has_black(parts: &[Facts], from: usize) -> bool
-    ensures { IsTrue result ↔ ((k : ℕ) × (from ≤ k) × (k < length parts.now) × ((part_in parts.now k).view.black ≡ true)) }
+fn has_black<M: Machine>(machine: &M, from: u32) -> bool
+    ensures { IsTrue result ↔ HasBlack from (M.visited machine.now) (M.seen machine.now) }
 {
-    for (index, part) in parts.iter().enumerate() {
-        if index >= from && part.view.black {
+    for k in from..machine.visited() {
+        if machine.part(k).view.black {
             return true;
         }
     }

@@ -10,3 +10,18 @@ pub struct Facts {
     /// The part puts no packet on a link.
     pub held: bool,
 }
+
+impl Facts {
+    /// What is seen where no visited part is.
+    pub const NONE: Facts = Facts {
+        view: PartView {
+            still: true,
+            black: false,
+            counter: 0,
+            live: false,
+            votes: true,
+            at_end: false,
+        },
+        held: false,
+    };
+}

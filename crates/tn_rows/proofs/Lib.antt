@@ -1,3 +1,14 @@
+pub mod Beginnings
+pub mod Crossed
+pub mod Cutting
 pub mod HostLinks
+pub mod Keeping
 pub mod Meeting
 pub mod Neighbours
+pub mod Noting
+pub mod Others
+pub mod Packets
+pub mod PartKinds
+pub mod Standing
+pub mod Walking
+pub mod Ways

@@ -65,11 +65,18 @@ done_on (HostV s) = None
 done_on (DetectorV v) = done_with v.now.answer
 done_on AbsentV = None
 
--- how a run ends with an event after which the machine is this one, if the event is final. Before it no part tells an end
+-- how a run ends with an event after which the event's own part is this one, if the event is final. Before it the part tells no end
+abbrev pub final_on : Event → PartView → Option Outcome
+final_on (event.Turn t n) = ended_on t
+final_on (event.Route p) = bad_key_on
+final_on event.Announce = done_on
+final_on _ = λ part. None
+
+-- how a run ends with an event after which the machine is this one, if the event is final: the event's own part tells
 abbrev pub final_of : Event → WorldView → Option Outcome
-final_of (event.Turn t n) w = option_and_then (ended_on t) (option_and_then (slice_get w.parts) (part_of w.shape t))
-final_of (event.Route p) w = option_and_then bad_key_on (slice_get w.parts p.0)
-final_of event.Announce w = option_and_then done_on (slice_get w.parts (detector_part w.shape))
+final_of (event.Turn t n) w = option_and_then (final_on (event.Turn t n)) (option_and_then (slice_get w.parts) (part_of w.shape t))
+final_of (event.Route p) w = option_and_then (final_on (event.Route p)) (slice_get w.parts p.0)
+final_of event.Announce w = option_and_then (final_on event.Announce) (slice_get w.parts (detector_part w.shape))
 final_of _ w = None
 
 abbrev pub last_of : List Event → Option Event

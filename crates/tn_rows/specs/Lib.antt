@@ -1,8 +1,11 @@
+pub mod Cuts
 pub mod DetectorDeed
 pub mod Ends
 pub mod Events
 pub mod Listed
 pub mod PartView
 pub mod Places
+pub mod Roles
 pub mod Runs
+pub mod Stamped
 pub mod WorldView

@@ -7,11 +7,11 @@ ghost use Rattle.tn_run.specs.Report.{dropped_text, exit_text, exits_from, exits
 use std::alloc::{AllocError, Global};
 use tn_base::event::{Outcome, Trap};
 use tn_link::plain::PlainLink;
+use tn_part::part::Part;
 use tn_text::print::{push_decimal, push_hex_word};
 use tn_thread::state::ThreadState;
 use tn_tile::tile::Tile;
 use tn_trace::host::push_hosts;
-use tn_world::part::Part;
 use tn_world::world::World;
 
 /// The printed name of a trap.

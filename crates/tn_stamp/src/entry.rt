@@ -1,5 +1,7 @@
 //! Entries of journals, and what passes between the two parts of an event.
 
+ghost use Rattle.std.specs.Prelude.{◌≡◌};
+
 use tn_base::event::Event;
 use tn_base::message::Packet;
 pub use tn_node::facts::PartFacts;
@@ -13,6 +15,19 @@ pub enum Crossing {
     Packet(Packet),
     /// A part's facts for the detector, and its answer.
     View(PartFacts),
+}
+
+impl Crossing {
+    /// The same crossing.
+    pub fn copy(&self) -> Crossing
+        ensures { result ≡ self.now }
+    {
+        match self {
+            Crossing::None => Crossing::None,
+            Crossing::Packet(packet) => Crossing::Packet(packet.copy()),
+            Crossing::View(facts) => Crossing::View(*facts),
+        }
+    }
 }
 
 /// An event in the journal of a part.

@@ -20,15 +20,18 @@ same_threads a b p = λ k. record {
   mask_high = p.2.2 k;
   mem = p.5 k;
   out = p.6 k;
+  hand = p.1.5 k;
+  switch = p.7 k;
 }
 
 pub parts_of : (a b : Thread) → a ≡ b → SameParts a b
 parts_of a b e = (
   (ap (λ (t : Thread). t.id) e, ap (λ (t : Thread). t.shape) e, ap (λ (t : Thread). t.firmware) e),
-  (ap (λ (t : Thread). t.pc) e, ap (λ (t : Thread). t.steps) e, ap (λ (t : Thread). t.sends) e, ap (λ (t : Thread). t.given) e, ap (λ (t : Thread). t.answer_to) e),
+  (ap (λ (t : Thread). t.pc) e, ap (λ (t : Thread). t.steps) e, ap (λ (t : Thread). t.sends) e, ap (λ (t : Thread). t.given) e, ap (λ (t : Thread). t.answer_to) e, ap (λ (t : Thread). t.hand) e),
   (ap (λ (t : Thread). t.dest) e, ap (λ (t : Thread). t.mask_low) e, ap (λ (t : Thread). t.mask_high) e),
   ap (λ (t : Thread). t.state) e,
   ap (λ (t : Thread). t.regs) e,
   ap (λ (t : Thread). t.mem) e,
   ap (λ (t : Thread). t.out) e,
+  ap (λ (t : Thread). t.switch) e,
 )

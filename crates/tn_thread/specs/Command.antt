@@ -32,10 +32,10 @@ stays t asked = record { thread = record t { steps = t.steps + 1; given = 0 }; o
 abbrev pub entered : ℕ → List ℕ → Thread → Stepped
 entered entry regs t = record { thread = record t { pc = entry; regs = regs; steps = t.steps + 1; given = 0 }; op = op.None }
 
--- the first letter of the queue is taken
+-- the first letter of the queue is taken, and its slot is the one in hand
 abbrev pub handed : Option ℕ → Thread → Stepped
 handed None t = trapped trap.RecvEmpty t
-handed (Some slot) t = stays t op.Hand
+handed (Some slot) t = stays (record t { hand = slot }) op.Hand
 
 -- the message in the send slot is sent to the host or by a key
 abbrev pub sent_off : Dest → Sight → Thread → Stepped

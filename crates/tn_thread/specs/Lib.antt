@@ -1,6 +1,7 @@
 pub mod Alone
 pub mod Asks
 pub mod Command
+pub mod Dispatch
 pub mod Fits
 pub mod Memory
 pub mod Registers

@@ -9,7 +9,7 @@ SameName a b = (a.id ≡ b.id) × (a.shape ≡ b.shape) × (a.firmware ≡ b.fir
 -- they stand at one place, and have made as much
 abbrev pub SameCounts : Thread → Thread → Type 0
 SameCounts a b =
-    (a.pc ≡ b.pc) × (a.steps ≡ b.steps) × (a.sends ≡ b.sends) × (a.given ≡ b.given) × (a.answer_to ≡ b.answer_to)
+    (a.pc ≡ b.pc) × (a.steps ≡ b.steps) × (a.sends ≡ b.sends) × (a.given ≡ b.given) × (a.answer_to ≡ b.answer_to) × (a.hand ≡ b.hand)
 
 -- they send to one destination
 abbrev pub SameSending : Thread → Thread → Type 0
@@ -17,4 +17,4 @@ SameSending a b = (a.dest ≡ b.dest) × (a.mask_low ≡ b.mask_low) × (a.mask_
 
 abbrev pub SameParts : Thread → Thread → Type 0
 SameParts a b =
-    SameName a b × SameCounts a b × SameSending a b × (a.state ≡ b.state) × (a.regs ≡ b.regs) × (a.mem ≡ b.mem) × (a.out ≡ b.out)
+    SameName a b × SameCounts a b × SameSending a b × (a.state ≡ b.state) × (a.regs ≡ b.regs) × (a.mem ≡ b.mem) × (a.out ≡ b.out) × (a.switch ≡ b.switch)

@@ -1,5 +1,5 @@
 -- One step of a thread: what it reads and writes, what it asks of its tile, and when it traps.
-use Rattle.std.specs.Prelude.{ℕ, ◌≡◌, ◌≤◌, ◌<◌, ◌+◌, ◌-◌, ◌*◌, ◌/◌, ◌%◌, ◌^◌, ◌==◌, ◌&&◌, ◌||◌, ◌++◌, Bool, true, false, not, IsTrue, List, length, replicate, take, bit_and, nat_le, nat_lt, Option, Some, None, is_some, if◌then◌else◌}
+use Rattle.std.specs.Prelude.{ℕ, ◌≡◌, ◌≤◌, ◌<◌, ◌+◌, ◌-◌, ◌*◌, ◌/◌, ◌%◌, ◌^◌, ◌==◌, ◌&&◌, ◌||◌, Bool, true, false, not, IsTrue, List, length, replicate, take, bit_and, nat_le, nat_lt, Option, Some, None, is_some, if◌then◌else◌}
 use Rattle.tn_base.specs.Regs.{set_reg}
 use Rattle.tn_base.specs.Message.{has_dest, slot_bytes}
 use Rattle.tn_base.specs.declared.ids.ThreadId.{ThreadId}
@@ -297,4 +297,6 @@ started shape id image firmware = record {
   mask_high = 0;
   mem = memory_of shape.mem image;
   out = record { bytes = replicate (slot_bytes shape) 0; last = first_last firmware };
+  hand = 0;
+  switch = None;
 }

@@ -2,10 +2,11 @@
 
 ghost use Rattle.std.specs.Prelude.{true, ◌≡◌, ◌<◌, ◌+◌, ◌^◌};
 ghost use Rattle.tn_base.specs.declared.message.Dest.TheVariants as dest;
+ghost use Rattle.tn_thread.specs.Asks.{asks, op_of};
 ghost use Rattle.tn_thread.specs.Command.{FitsCommand, commanded, given_up, handed, sent_by, sent_off, stays};
 ghost use Rattle.tn_thread.specs.Fits.{StepFits};
-ghost use Rattle.tn_thread.specs.Step.{trapped};
 
+use crate::ask::Ask;
 use crate::state::{Target, ThreadState, WaitSet};
 use crate::thread::Thread;
 use crate::view::View;
@@ -49,104 +50,96 @@ impl Thread {
         ensures step { record { thread = self.new; op = result } ≡ commanded c (V.sight view.now) self.old }
         ensures fits { StepFits (V.sight view.now) self.old (record { thread = self.new; op = result }) }
     {
-        self.obey(c, view)
+        let ask = self.obey(c, view);
+        self.op_of(ask)
     }
 
-    /// The command alone.
-    fn obey<V: View>(&mut self, c: Command, view: &V) -> Op
+    /// The command alone, which hands on what the thread asks without the message of a send.
+    pub(crate) fn obey<V: View>(&mut self, c: Command, view: &V) -> Ask
         requires { self.old.steps < self.old.shape.fuel }
-        ensures { record { thread = self.new; op = result } ≡ commanded c (V.sight view.now) self.old }
+        ensures { asks result self.new ≡ commanded c (V.sight view.now) self.old }
     {
         let _limits = self.shape.numbers();
         match c {
             Command::Enter { entry, regs } => {
                 self.pc = entry;
                 self.regs = regs;
-                self.stay(Op::None)
+                self.stay(Ask::None)
             }
-            Command::Recv => self.hand(view),
+            Command::Recv => self.take_in_hand(view),
             Command::KeySend(key) => self.send_by(key, view),
             Command::HostSend => self.send_off(Dest::Host, view),
             Command::Free(slot) => self.give_up(slot, view),
             Command::Wait(waits) => {
                 self.state = ThreadState::Wait(WaitSet::low_bits_of(u32::from(waits)));
-                self.stay(Op::None)
+                self.stay(Ask::None)
             }
             Command::Idle(vote) => {
                 self.state = ThreadState::Idle(vote);
                 self.answer_to = Target::of(0);
-                self.stay(Op::Idle(vote))
+                self.stay(Ask::Idle(vote))
             }
             Command::Kill => {
                 self.state = ThreadState::Dead(0);
-                self.stay(Op::Kill(0))
+                self.stay(Ask::Kill(0))
             }
-            Command::Trap(why) => self.refuse(why),
+            Command::Trap(why) => self.trap(why),
         }
-    }
-
-    /// Traps.
-    fn refuse(&mut self, why: Trap) -> Op
-        requires { self.old.steps + 1 < 2 ^ 32 }
-        ensures { record { thread = self.new; op = result } ≡ trapped why self.old }
-    {
-        let ask = self.trap(why);
-        self.op_of(ask)
     }
 
     /// Counts the step, and stays at the address.
-    fn stay(&mut self, op: Op) -> Op
+    fn stay(&mut self, ask: Ask) -> Ask
         requires { self.old.steps + 1 < 2 ^ 32 }
-        ensures { record { thread = self.new; op = result } ≡ stays self.old op }
+        ensures step { asks result self.new ≡ stays self.old (op_of ask self.old) }
     {
         self.steps += 1;
         self.given = 0;
-        op
+        ask
     }
 
-    /// Takes the first letter of the queue.
-    fn hand<V: View>(&mut self, view: &V) -> Op
+    /// Takes the first letter of the queue: its slot is in hand.
+    fn take_in_hand<V: View>(&mut self, view: &V) -> Ask
         requires { self.old.steps + 1 < 2 ^ 32 }
-        ensures { record { thread = self.new; op = result } ≡ handed (V.sight view.now).first self.old }
+        ensures { asks result self.new ≡ handed (V.sight view.now).first self.old }
     {
-        if view.first().is_none() {
-            return self.refuse(Trap::RecvEmpty);
-        }
-        self.stay(Op::Hand)
+        let Some(slot) = view.first() else {
+            return self.trap(Trap::RecvEmpty);
+        };
+        self.hand = slot;
+        self.stay(Ask::Hand)
     }
 
     /// Sends by a key, if there is one.
-    fn send_by<V: View>(&mut self, key: Option<u32>, view: &V) -> Op
+    fn send_by<V: View>(&mut self, key: Option<u32>, view: &V) -> Ask
         requires { self.old.steps + 1 < 2 ^ 32 }
-        ensures { record { thread = self.new; op = result } ≡ sent_by key (V.sight view.now) self.old }
+        ensures { asks result self.new ≡ sent_by key (V.sight view.now) self.old }
     {
         match key {
             Some(key) => self.send_off(Dest::Key(key), view),
-            None => self.stay(Op::None),
+            None => self.stay(Ask::None),
         }
     }
 
     /// Sends the message in the send slot to the host or by a key.
-    fn send_off<V: View>(&mut self, dest: Dest, view: &V) -> Op
+    fn send_off<V: View>(&mut self, dest: Dest, view: &V) -> Ask
         requires { self.old.steps + 1 < 2 ^ 32 }
-        ensures { record { thread = self.new; op = result } ≡ sent_off dest (V.sight view.now) self.old }
+        ensures { asks result self.new ≡ sent_off dest (V.sight view.now) self.old }
     {
         if !view.can_send() {
-            return self.refuse(Trap::SendBusy);
+            return self.trap(Trap::SendBusy);
         }
         self.sends = self.sends.wrapping_add(1);
-        let message = self.out.message();
-        self.stay(Op::Send(dest, message))
+        self.stay(Ask::Send(dest))
     }
 
     /// Gives up a slot, if the thread holds it.
-    fn give_up<V: View>(&mut self, slot: u16, view: &V) -> Op
+    fn give_up<V: View>(&mut self, slot: u16, view: &V) -> Ask
         requires { self.old.steps + 1 < 2 ^ 32 }
-        ensures { record { thread = self.new; op = result } ≡ given_up slot (V.sight view.now) self.old }
+        ensures { asks result self.new ≡ given_up slot (V.sight view.now) self.old }
     {
         if view.held(slot).is_none() {
-            return self.refuse(Trap::BadFree);
+            return self.trap(Trap::BadFree);
         }
-        self.stay(Op::Free(slot))
+        self.stay(Ask::Free(slot))
     }
 }

@@ -7,6 +7,7 @@
 pub mod alone;
 pub mod ask;
 pub mod command;
+pub mod dispatch;
 pub mod place;
 pub mod register;
 pub mod send_slot;

@@ -8,7 +8,7 @@ ghost use Rattle.tn_base.specs.Effects.{is_width};
 ghost use Rattle.tn_pages.specs.Numbers.{value_at};
 ghost use Rattle.tn_thread.specs.Memory.{extended, sign_filled};
 ghost use Rattle.tn_thread.specs.Registers.{register_of};
-ghost use Rattle.tn_thread.specs.Step.{FitsStep, IsWithin, Stepped, answered, completed, dest_of, freed, got, is_idle, loaded, place_of, read_by, resumed, runnable, sent, stepped, stored, trapped, went, went_to, write_by, write_row};
+ghost use Rattle.tn_thread.specs.Step.{FitsStep, IsWithin, Stepped, answered, completed, dest_of, freed, got, is_idle, loaded, place_of, read_by, resumed, runnable, sent, slot_address, stepped, stored, trapped, went, went_to, write_by, write_row};
 
 use crate::ask::Ask;
 use crate::place::Place;
@@ -30,7 +30,7 @@ use tn_pages::stock::PageStock;
 const RECEIVED: u32 = 0x4000_0000;
 
 /// The address of the send slot.
-const SEND_SLOT: u32 = 0x5000_0000;
+pub(crate) const SEND_SLOT: u32 = 0x5000_0000;
 
 impl Thread {
     /// Whether the thread can make a step.
@@ -213,7 +213,7 @@ impl Thread {
 
     /// What the thread asks of its tile, with the message of a send.
     #[inline(always)]
-    pub(crate) fn op_of(&self, ask: Ask) -> Op
+    pub fn op_of(&self, ask: Ask) -> Op
         ensures { result ≡ op_of ask self.now }
     {
         match ask {
@@ -346,8 +346,7 @@ impl Thread {
             }
             Register::Recv => match view.first() {
                 Some(slot) => {
-                    let address = RECEIVED + self.out.len() as u32 * u32::from(slot);
-                    self.finish_read(rd, address);
+                    self.finish_read(rd, self.slot_address(slot));
                     Ask::Hand
                 }
                 None => self.trap(Trap::RecvEmpty),
@@ -358,6 +357,14 @@ impl Thread {
             }
             _ => self.trap(Trap::BadCsr),
         }
+    }
+
+    /// The address of the message in a slot.
+    #[inline(always)]
+    pub(crate) fn slot_address(&self, slot: u16) -> u32
+        ensures { result ≡ slot_address self.now slot }
+    {
+        RECEIVED + self.out.len() as u32 * u32::from(slot)
     }
 
     /// A write of a control register.

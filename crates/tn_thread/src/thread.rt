@@ -1,6 +1,6 @@
 //! A thread.
 
-ghost use Rattle.std.specs.Prelude.{◌≡◌, ◌≤◌, ◌<◌, ◌↔◌, IfOk, IsTrue, MatchOption, ⊤, length, slice_index};
+ghost use Rattle.std.specs.Prelude.{◌≡◌, ◌≤◌, ◌<◌, ◌↔◌, IfOk, IsTrue, MatchOption, ⊤, Some, length, option_copied, slice_index};
 ghost use Rattle.tn_base.specs.Message.{flits};
 ghost use Rattle.tn_pages.specs.Paged.{pages_made};
 ghost use Rattle.tn_thread.specs.Same.{SameCounts, SameName, SameParts, SameSending};
@@ -8,6 +8,7 @@ ghost use Rattle.tn_thread.specs.Step.{given_by, started};
 
 use crate::send_slot::SendSlot;
 use crate::state::{Target, ThreadState};
+use polite_switch::switch::Switch;
 use std::alloc::{AllocError, Global};
 use tn_base::ids::ThreadId;
 use tn_base::regs::Regs;
@@ -36,6 +37,10 @@ pub struct Thread {
     pub(crate) mask_high: u32,
     pub(crate) mem: PagedMemory,
     pub(crate) out: SendSlot,
+    /// The slot of the letter that the softswitch took last.
+    pub(crate) hand: u16,
+    /// The softswitch of a thread of a graph job.
+    pub(crate) switch: Option<Switch>,
 }
 
 impl Thread {
@@ -73,6 +78,8 @@ impl Thread {
             mask_high: 0,
             mem,
             out: SendSlot::new(shape.slot_bytes(), last),
+            hand: 0,
+            switch: None,
         })
     }
 
@@ -125,6 +132,20 @@ impl Thread {
         }
     }
 
+    /// The softswitch of a thread of a graph job.
+    pub fn switch(&self) -> Option<&Switch>
+        ensures { option_copied result ≡ self.now.switch }
+    {
+        self.switch.as_ref()
+    }
+
+    /// The thread has this softswitch from now on.
+    pub fn give_switch(&mut self, switch: Switch)
+        ensures { self.new ≡ record self.old { switch = Some switch } }
+    {
+        self.switch = Some(switch);
+    }
+
     /// A byte of private memory.
     pub fn byte(&self, addr: u32) -> u8
         requires { addr < length self.now.mem.bytes }
@@ -145,6 +166,7 @@ impl Thread {
         ensures { IfOk result (λ t. t ≡ self.now) }
     {
         let mem = self.mem.copy()?;
+        let switch = copy_switch(&self.switch)?;
         Ok(Thread {
             id: self.id,
             shape: self.shape,
@@ -161,6 +183,8 @@ impl Thread {
             mask_high: self.mask_high,
             mem,
             out: self.out.copy(),
+            hand: self.hand,
+            switch,
         })
     }
 
@@ -169,6 +193,27 @@ impl Thread {
         ensures { IsTrue result ↔ (self.now ≡ other.now) }
     {
         same_parts(self, other)
+    }
+}
+
+/// The same softswitch, if there is a softswitch.
+fn copy_switch(switch: &Option<Switch>) -> Result<Option<Switch>, AllocError>
+    ensures { IfOk result (λ o. o ≡ switch.now) }
+{
+    match switch {
+        Some(switch) => Ok(Some(switch.copy()?)),
+        None => Ok(None),
+    }
+}
+
+/// Whether two threads have equal softswitches, or none.
+fn same_switch(a: &Option<Switch>, b: &Option<Switch>) -> bool
+    ensures { IsTrue result ↔ (a.now ≡ b.now) }
+{
+    match (a, b) {
+        (Some(a), Some(b)) => a.same(b),
+        (None, None) => true,
+        _ => false,
     }
 }
 
@@ -183,6 +228,7 @@ fn same_parts(a: &Thread, b: &Thread) -> bool
         && same_regs(&a.regs, &b.regs)
         && a.mem.same(&b.mem)
         && a.out.same(&b.out)
+        && same_switch(&a.switch, &b.switch)
 }
 
 /// Whether two threads have one name, and one machine.
@@ -201,6 +247,7 @@ fn same_counts(a: &Thread, b: &Thread) -> bool
         && a.sends == b.sends
         && a.given == b.given
         && a.answer_to == b.answer_to
+        && a.hand == b.hand
 }
 
 /// Whether two threads send to one destination.

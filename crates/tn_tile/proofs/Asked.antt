@@ -1,5 +1,5 @@
 -- A step that asks: what its instruction gives, and what it makes of the tile.
-use Rattle.std.proofs.Common.{ℕ, ◌≡◌, ◌≤◌, arith, List, refl, sym, ap, subst, ◌∙◌, Option, Some, None}
+use Rattle.std.proofs.Common.{ℕ, ◌≡◌, ◌≤◌, ◌/◌, arith, false, List, refl, sym, ap, subst, ◌∙◌, Option, Some, None, is_some, slice_get}
 use Rattle.rv_isa.specs.declared.instr.Instr.{Instr}
 use Rattle.rv_exec.specs.Exec.{OnAsking, regs_after, step_at}
 use Rattle.tn_base.specs.declared.effect.Effect.{Effect}
@@ -15,7 +15,8 @@ use Rattle.tn_thread.specs.Sight.{Sight}
 use Rattle.tn_thread.specs.Step.{Stepped, resumed, resumed_by, stepped as thread_stepped}
 use Rattle.tn_thread.proofs.Fits.{turned_resumes, turned_runs}
 use Rattle.tn_tile.specs.Alone.{AsksAt, Fetches, NextIs, Stops, alone_at}
-use Rattle.tn_tile.specs.Step.{fetched_at, fetched_by, next_step}
+use Rattle.tn_tile.specs.Step.{due_at, fetched_at, fetched_by, next_step, step_by}
+use Rattle.tn_tile.proofs.Due.{due_not, not_due}
 use Rattle.tn_tile.proofs.Turned.{fetched_runs, turned_from}
 
 -- a call that does not go on changed nothing
@@ -64,10 +65,15 @@ pub stops_few : (n : ℕ) (e : Option Effect) (most : ℕ) (code : List (Option 
 stops_few n None most code t h = omega (arith, h)
 stops_few n (Some e) most code t h = let less = h.0 in omega arith
 
--- the next step of a thread that runs, by the effect of its instruction
-pub next_by : (code : List (Option Instr)) (e : Effect) (seen : Sight) (t : Thread) → t.state ≡ state.Run → NextIs code e t → next_step code seen t ≡ thread_stepped e seen t
-next_by code e seen t run next =
-    ap (turned_from seen) (fetched_runs t.state code t run ∙ next.0) ∙ turned_runs t.state e seen t run
+-- the next step of a thread that runs, by the effect of its instruction, where no dispatch is due
+pub next_by : (code : List (Option Instr)) (e : Effect) (seen : Sight) (t : Thread) → t.state ≡ state.Run → is_some (due_at (slice_get code (t.pc / 4)) t) ≡ false → NextIs code e t → next_step code seen t ≡ thread_stepped e seen t
+next_by code e seen t run none next =
+    not_due code seen t run none ∙ ap (turned_from seen) (fetched_runs t.state code t run ∙ next.0) ∙ turned_runs t.state e seen t run
+
+-- the same, where the instruction wrote to the registers before
+pub next_from : (code : List (Option Instr)) (e : Effect) (seen : Sight) (t u : Thread) → t.state ≡ state.Run → u.state ≡ state.Run → is_some (due_at (slice_get code (t.pc / 4)) t) ≡ false → record { thread = u; effect = e } ≡ fetched_at (slice_get code (t.pc / 4)) t → next_step code seen t ≡ thread_stepped e seen u
+next_from code e seen t u run runs none fetched =
+    not_due code seen t run none ∙ ap (turned_from seen) (fetched_runs t.state code t run ∙ sym fetched) ∙ turned_runs u.state e seen u runs
 
 -- a thread that does not run executes no instruction
 fetched_stays : (s : ThreadState) (code : List (Option Instr)) (t : Thread) → (s ≡ state.Run → ⊥) → fetched_by s code t ≡ record { thread = t; effect = effect.Next }
@@ -90,7 +96,8 @@ resumed_none (state.Trapped why) t = refl
 -- so the next step of such a thread asks nothing
 pub next_woken : (code : List (Option Instr)) (seen : Sight) (t new : Thread) (a : Ask) → (t.state ≡ state.Run → ⊥) → asks a new ≡ resumed t → record { thread = new; op = op.None } ≡ next_step code seen t
 next_woken code seen t new a not_run e =
-    let step : next_step code seen t ≡ resumed t = ap (turned_from seen) (fetched_stays t.state code t not_run) ∙ turned_resumes t.state effect.Next seen t not_run in
+    let none : next_step code seen t ≡ step_by None code seen t = ap (λ d. step_by d code seen t) (due_not t.state code t not_run) in
+    let step : next_step code seen t ≡ resumed t = none ∙ ap (turned_from seen) (fetched_stays t.state code t not_run) ∙ turned_resumes t.state effect.Next seen t not_run in
     let thread : new ≡ (resumed t).thread = ap (λ (x : Stepped). x.thread) e in
-    let none : op.None ≡ (resumed t).op = sym (resumed_none t.state t) in
-    (λ i. record { thread = thread i; op = none i }) ∙ sym step
+    let nothing : op.None ≡ (resumed t).op = sym (resumed_none t.state t) in
+    (λ i. record { thread = thread i; op = nothing i }) ∙ sym step

@@ -1,9 +1,12 @@
 -- A step ends its thread exactly where it says so.
 use Rattle.std.proofs.Common.{ℕ, ◌≡◌, ◌-◌, ◌%◌, ◌&&◌, Bool, true, false, not, List, refl, ap, ◌∙◌, nat_eq, Option, Some, None, is_some}
 use Rattle.std.proofs.lemmas.Bool.{cond_both}
+use Rattle.polite_switch.specs.SwitchModel.{SwitchModel}
+use Rattle.polite_switch.specs.Table.{Dispatched, dispatched}
 use Rattle.rv_isa.specs.declared.instr.Instr.{Instr}
 use Rattle.tn_base.specs.Message.{has_dest}
 use Rattle.tn_base.specs.declared.message.Dest.{Dest}
+use Rattle.tn_base.specs.declared.message.Dest.TheVariants as dest
 use Rattle.tn_base.specs.declared.effect.Effect.{Effect}
 use Rattle.tn_base.specs.declared.effect.Effect.TheVariants as effect
 use Rattle.tn_base.specs.declared.op.Op.{Op}
@@ -15,11 +18,15 @@ use Rattle.tn_thread.specs.declared.register.Register.TheVariants as register
 use Rattle.tn_thread.specs.declared.state.ThreadState.{ThreadState}
 use Rattle.tn_thread.specs.declared.state.ThreadState.TheVariants as state
 use Rattle.tn_thread.specs.declared.thread.Thread.{Thread}
+use Rattle.tn_thread.specs.declared.command.Command.{Command}
+use Rattle.tn_thread.specs.declared.command.Command.TheVariants as command
+use Rattle.tn_thread.specs.Command.{commanded, handed, sent_by, sent_off}
+use Rattle.tn_thread.specs.Dispatch.{command_of, view_of}
 use Rattle.tn_thread.specs.Registers.{is_open, may_write, register_of}
 use Rattle.tn_thread.specs.Sight.{Sight}
 use Rattle.tn_thread.specs.Step.{Stepped, dest_of, freed, is_received, loaded_from, loaded_message, place_of, read_by, read_row, received, runnable, sent, sent_to, slot_at, slot_size, stepped, stored_to, turned_by, write_by, write_row}
 use Rattle.tn_tile.specs.Receivers.{is_dead}
-use Rattle.tn_tile.specs.Step.{Fetched, fetched_at, fetched_by, next_step}
+use Rattle.tn_tile.specs.Step.{Fetched, due_by, fetched_at, fetched_by, next_step, step_by}
 
 -- a step says that its thread ended
 abbrev pub kills : Op → Bool
@@ -147,7 +154,37 @@ alive_of seen (state.Answered value) e = refl
 alive_of seen (state.Dead value) e = cc
 alive_of seen (state.Trapped why) e = refl
 
-pub next_ends : (code : List (Option Instr)) (seen : Sight) (t : Thread) → is_dead t.state ≡ false → EndsSo (next_step code seen t)
-next_ends code seen t alive =
+-- a dispatch
+handed_ends : (first : Option ℕ) (t : Thread) → is_dead t.state ≡ false → EndsSo (handed first t)
+handed_ends None t alive = refl
+handed_ends (Some slot) t alive = alive
+
+off_ends : (to : Dest) (seen : Sight) (t : Thread) → is_dead t.state ≡ false → EndsSo (sent_off to seen t)
+off_ends to seen t alive = cond_both seen.can_send _ _ (λ s. EndsSo s) (λ e. alive) (λ e. refl)
+
+by_key_ends : (key : Option ℕ) (seen : Sight) (t : Thread) → is_dead t.state ≡ false → EndsSo (sent_by key seen t)
+by_key_ends None seen t alive = alive
+by_key_ends (Some key) seen t alive = off_ends (dest.Key key) seen t alive
+
+command_ends : (c : Command) (seen : Sight) (t : Thread) → is_dead t.state ≡ false → EndsSo (commanded c seen t)
+command_ends (command.Enter entry regs) seen t alive = alive
+command_ends command.Recv seen t alive = handed_ends seen.first t alive
+command_ends (command.KeySend key) seen t alive = by_key_ends key seen t alive
+command_ends command.HostSend seen t alive = off_ends dest.Host seen t alive
+command_ends (command.Free slot) seen t alive = cond_both (is_some (seen.held slot)) _ _ (λ s. EndsSo s) (λ e. alive) (λ e. refl)
+command_ends (command.Wait waits) seen t alive = refl
+command_ends (command.Idle vote) seen t alive = refl
+command_ends command.Kill seen t alive = refl
+command_ends (command.Trap why) seen t alive = refl
+
+ends_by : (d : Option SwitchModel) (code : List (Option Instr)) (seen : Sight) (t : Thread) → is_dead t.state ≡ false → EndsSo (step_by d code seen t)
+ends_by (Some s) code seen t alive =
+    let d : Dispatched = dispatched (view_of seen t) s in
+    let u : Thread = record t { switch = Some d.switch } in
+    command_ends (command_of d.action u) seen u alive
+ends_by None code seen t alive =
     let f : Fetched = fetched_by t.state code t in
     turned_ends f.thread.state f.effect seen f.thread (ap is_dead (by_state t.state code t) ∙ alive)
+
+pub next_ends : (code : List (Option Instr)) (seen : Sight) (t : Thread) → is_dead t.state ≡ false → EndsSo (next_step code seen t)
+next_ends code seen t alive = ends_by (due_by t.state code t) code seen t alive

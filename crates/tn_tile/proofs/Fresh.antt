@@ -1,8 +1,9 @@
 -- A tile at its start.
-use Rattle.std.proofs.Common.{ℕ, ◌≡◌, ◌+◌, ◌-◌, List, [], length, get_or, refl, ap, ◌∙◌, arith, length-append, replicate, IsTrue, None, ◌∷◌, ◌++◌, inl, inr, ◌<◌}
+use Rattle.std.proofs.Common.{ℕ, ◌≡◌, ◌+◌, ◌-◌, List, [], length, set, Some, get_or, refl, ap, ◌∙◌, arith, length-append, replicate, IsTrue, None, ◌∷◌, ◌++◌, inl, inr, ◌<◌}
 use Rattle.std.proofs.Math.ListN.{get_or-append}
 use Rattle.std.proofs.lemmas.Bool.{cases_lt}
 use Rattle.std.proofs.lemmas.List.{get_or_push, length-replicate}
+use Rattle.polite_switch.specs.SwitchModel.{SwitchModel}
 use Rattle.tn_base.specs.declared.port.Port.TheVariants as port
 use Rattle.tn_base.specs.declared.shape.ShapeNumbers.{ShapeNumbers}
 use Rattle.tn_base.specs.Address.{has_tile, in_tile, tile_threads}
@@ -11,7 +12,7 @@ use Rattle.tn_node.specs.PortRows.{no_values}
 use Rattle.tn_slots.proofs.Lists.{replicate_each}
 use Rattle.tn_thread.specs.declared.thread.Thread.{Thread}
 use Rattle.tn_thread.specs.Step.{slot_size}
-use Rattle.tn_tile.specs.Kept.{AreStarts, IsThread, OutFits, StartsAt, WellShaped, fresh_tile}
+use Rattle.tn_tile.specs.Kept.{AreStarts, IsThread, OutFits, StartsAt, WellShaped, fresh_tile, with_switches}
 use Rattle.tn_tile.specs.Receivers.{dead_in, is_dead}
 use Rattle.tn_tile.specs.Step.{no_thread}
 use Rattle.tn_tile.proofs.Dead.{none_dead}
@@ -63,3 +64,9 @@ starts_more n tile k ts t long each new j h =
       | inl below ↦ let within : j < length ts = omega arith in rw (get_or-append ts (t ∷ []) no_thread j within) (each j below)
       | inr last ↦ let same : j ≡ k = omega arith in rw (same, get_or_push ts t no_thread k long) new
     ]
+
+-- the last softswitch can be given first
+pub switch_last : (ts : List Thread) (ss : List SwitchModel) (s : SwitchModel) → length ss < length ts → with_switches ts (ss ++ s ∷ []) ≡ with_switches (set ts (length ss) (record (get_or ts (length ss) no_thread) { switch = Some s })) ss
+switch_last [] ss s h = absurd (omega arith)
+switch_last (t ∷ ts) [] s h = refl
+switch_last (t ∷ ts) (r ∷ rs) s h = ap (λ (l : List Thread). record t { switch = Some r } ∷ l) (switch_last ts rs s (omega arith))

@@ -1,5 +1,6 @@
 pub mod Asked
 pub mod Dead
+pub mod Due
 pub mod Deeds
 pub mod Elsewhere
 pub mod Ended

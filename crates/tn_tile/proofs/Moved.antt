@@ -2,6 +2,7 @@
 use Rattle.std.proofs.Common.{ℕ, ◌≡◌, ◌<◌, ◌≤◌, ◌/◌, zero, suc, true, List, [], length, refl, sym, subst, ◌∙◌, arith, length-set, Option, Some, None, slice_get}
 use Rattle.std.proofs.lemmas.Bool.{and_from, and_parts, le-leb, ltb-true}
 use Rattle.std.proofs.lemmas.List.{length-map}
+use Rattle.polite_switch.specs.SwitchModel.{SwitchModel}
 use Rattle.rv_isa.specs.declared.instr.Instr.{Instr}
 use Rattle.rv_exec.specs.Exec.{regs_after, step_at}
 use Rattle.tn_base.specs.declared.effect.Effect.{Effect}
@@ -19,9 +20,10 @@ use Rattle.tn_thread.specs.declared.thread.Thread.{Thread}
 use Rattle.tn_thread.specs.Fits.{OpFits, StepFits}
 use Rattle.tn_thread.specs.Sight.{Sight}
 use Rattle.tn_thread.specs.Step.{Stepped, runnable, turned}
+use Rattle.tn_thread.proofs.Commands.{dispatch_fits}
 use Rattle.tn_thread.proofs.Fits.{resumed_fits, stepped_fits, turned_resumes, turned_runs}
 use Rattle.tn_tile.specs.Kept.{IsFit, IsThread}
-use Rattle.tn_tile.specs.Step.{acted, can_step, fetched_at, fetched_by, next_step, sight_at, step_at_place, stepped, steps_of, thread_at, with_thread}
+use Rattle.tn_tile.specs.Step.{acted, can_step, due_by, fetched_at, fetched_by, next_step, sight_at, step_at_place, step_by, stepped, steps_of, thread_at, with_thread}
 use Rattle.tn_tile.specs.TileView.{TilePlan, TileState}
 use Rattle.tn_tile.proofs.Shaped.{pending_set, pool_same, taken_sizes, threads_set}
 use Rattle.tn_tile.proofs.Steps.{taken as took}
@@ -62,9 +64,13 @@ by_fits (state.Answered value) code seen t is can = woken_fits seen t can (λ e.
 by_fits (state.Dead value) code seen t is can = woken_fits seen t can (λ e. cc (is, e))
 by_fits (state.Trapped why) code seen t is can = woken_fits seen t can (λ e. cc (is, e))
 
+fits_by : (d : Option SwitchModel) (code : List (Option Instr)) (seen : Sight) (t : Thread) → runnable seen t.state ≡ true → StepFits seen t (step_by d code seen t)
+fits_by None code seen t can = by_fits t.state code seen t refl can
+fits_by (Some s) code seen t can = dispatch_fits s seen t
+
 -- each step that a thread can make fits
 pub next_fits : (code : List (Option Instr)) (seen : Sight) (t : Thread) → runnable seen t.state ≡ true → StepFits seen t (next_step code seen t)
-next_fits code seen t can = by_fits t.state code seen t refl can
+next_fits code seen t can = fits_by (due_by t.state code t) code seen t can
 
 -- what a step asks for
 acted_fits : (plan : TilePlan) (k : ℕ) (seen : Sight) (t new : Thread) (o : Op) (s : TileState) → t.shape ≡ plan.shape → length t.out.bytes ≡ slot_bytes plan.shape → OpFits seen t new o → IsFit plan s → IsFit plan (acted k t o s)

@@ -13,8 +13,9 @@ use Rattle.tn_thread.specs.Step.{Stepped, runnable, turned}
 use Rattle.tn_thread.proofs.AloneSteps.{Stays, alone_is, caught, stays_self, stays_more}
 use Rattle.tn_thread.proofs.Fits.{turned_runs}
 use Rattle.tn_tile.specs.Alone.{RanAlone, alone_at, alone_steps, next_alone}
-use Rattle.tn_tile.specs.Step.{Fetched, acted, can_step, fetched_at, fetched_by, next_step, no_thread, sight_at, step_at_place, stepped, steps_of, thread_at, with_thread}
+use Rattle.tn_tile.specs.Step.{Fetched, acted, can_step, due_by, fetched_at, fetched_by, next_step, no_thread, sight_at, step_at_place, step_by, stepped, steps_of, thread_at, with_thread}
 use Rattle.tn_tile.specs.TileView.{TilePlan, TileState}
+use Rattle.tn_tile.proofs.Due.{alone_due, due_runs}
 use Rattle.tn_tile.proofs.Runs.{at_stays}
 
 pub set_twice : {X : Type 0} (xs : List X) (k : ℕ) (x y : X) → set (set xs k x) k y ≡ set xs k y
@@ -61,7 +62,10 @@ at_is (Some (Some i)) seen m pc t g e run =
 -- the next step of the thread as it is after m such steps
 next_is : (code : List (Option Instr)) (seen : Sight) (m : ℕ) (g h : Going) → next_alone code seen g ≡ Some h → g.thread.state ≡ state.Run → next_step code seen (caught_up m g.pc g.thread) ≡ caught m h
 next_is code seen m g h e run =
-    ap (turned_from seen) (fetched_runs g.thread.state code (caught_up m g.pc g.thread) run)
+    let u : Thread = caught_up m g.pc g.thread in
+    let none : due_by g.thread.state code u ≡ None = due_runs g.thread.state code u run ∙ alone_due (slice_get code (g.pc / 4)) seen g.pc g.thread h e u in
+    ap (λ d. step_by d code seen u) none
+    ∙ ap (turned_from seen) (fetched_runs g.thread.state code u run)
     ∙ at_is (slice_get code (g.pc / 4)) seen m g.pc g.thread h e run
 
 -- a step that asks nothing changes the thread alone

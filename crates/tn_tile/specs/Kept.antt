@@ -1,12 +1,17 @@
 -- What holds of every tile.
-use Rattle.std.specs.Prelude.{ℕ, ◌≡◌, ◌≤◌, ◌<◌, Bool, true, false, IsTrue, List, length, map, MatchOption, None, Option, replicate, slice_index_or, ⊤}
+use Rattle.std.specs.Prelude.{ℕ, ◌≡◌, ◌≤◌, ◌<◌, Bool, true, false, IsTrue, List, [], ◌∷◌, length, map, MatchOption, None, Option, Some, is_some, replicate, slice_index_or, ⊤}
 use Rattle.rv_isa.specs.Decode.{decode_of}
+use Rattle.polite_switch.specs.declared.device.InEdge.{InEdge}
+use Rattle.polite_switch.specs.Device.{AllAligned, AllNamed}
+use Rattle.polite_switch.specs.DeviceModel.{DeviceModel}
+use Rattle.polite_switch.specs.SwitchModel.{SwitchModel}
+use Rattle.polite_switch.specs.Table.{fresh_switch}
 use Rattle.tn_base.specs.declared.message.Packet.{Packet}
 use Rattle.tn_base.specs.declared.port.Port.{Port}
 use Rattle.tn_base.specs.declared.port.Port.TheVariants as port
 use Rattle.tn_base.specs.declared.shape.ShapeNumbers.{ShapeNumbers}
 use Rattle.tn_base.specs.Address.{has_tile, in_tile, tile_threads}
-use Rattle.tn_base.specs.Message.{has_packet, slot_bytes}
+use Rattle.tn_base.specs.Message.{flits, has_packet, slot_bytes}
 use Rattle.tn_slots.specs.Pool.{fresh}
 use Rattle.tn_thread.specs.declared.thread.Thread.{Thread}
 use Rattle.tn_thread.specs.Step.{slot_size, started}
@@ -78,11 +83,35 @@ pub record HasPlace (k : ℕ) (s : TileState) : Type 0 where
   pub pending : k < length s.pending
   pub queue : k < length s.pool.queues
 
--- a thread at its start, for this place of the machine
+-- a softswitch at its start, over devices and in-edges that fit together
+pub record IsFreshSwitch (s : SwitchModel) : Type 0 where
+  pub devices : List DeviceModel
+  pub in_edges : List (List InEdge)
+  pub few : length devices ≤ 64
+  pub aligned : AllAligned devices
+  pub named : AllNamed (length devices) in_edges
+  pub start : s ≡ fresh_switch devices in_edges
+
+-- the machine has messages of so many flits
+abbrev pub FitsFirmware : ShapeNumbers → Option ℕ → Type 0
+FitsFirmware n firmware = MatchOption firmware ⊤ (λ many. (1 ≤ many) × (many ≤ flits n))
+
+-- a thread at its start, for this place of the machine: with firmware and a softswitch, or without both
 pub record StartsAt (n : ShapeNumbers) (a : ℕ) (t : Thread) : Type 0 where
   pub image : List ℕ
+  pub firmware : Option ℕ
+  pub switch : Option SwitchModel
   pub fits : length image ≤ n.mem
-  pub start : t ≡ started n (record { 0 = a }) image None
+  pub messages : FitsFirmware n firmware
+  pub fresh : MatchOption switch ⊤ IsFreshSwitch
+  pub both : is_some switch ≡ is_some firmware
+  pub start : t ≡ record (started n (record { 0 = a }) image firmware) { switch = switch }
+
+-- the threads with these softswitches: the first thread has the first, and each next thread the next
+abbrev pub with_switches : List Thread → List SwitchModel → List Thread
+with_switches threads [] = threads
+with_switches [] (s ∷ ss) = []
+with_switches (t ∷ ts) (s ∷ ss) = record t { switch = Some s } ∷ with_switches ts ss
 
 -- the threads of a tile at their start, by ascending address
 pub record AreStarts (n : ShapeNumbers) (tile : ℕ) (threads : List Thread) : Type 0 where

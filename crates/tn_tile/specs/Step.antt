@@ -11,11 +11,13 @@ use Rattle.tn_base.specs.declared.message.Dest.{Dest}
 use Rattle.tn_base.specs.declared.message.Packet.{Packet}
 use Rattle.tn_base.specs.declared.op.Op.{Op}
 use Rattle.tn_base.specs.declared.op.Op.TheVariants as op
+use Rattle.polite_switch.specs.SwitchModel.{SwitchModel}
 use Rattle.tn_slots.specs.Pool.{freed, held_by, key_for, left, queue_at, taken}
 use Rattle.tn_slots.specs.Queues.{first_of}
 use Rattle.tn_thread.specs.declared.state.ThreadState.{ThreadState}
 use Rattle.tn_thread.specs.declared.state.ThreadState.TheVariants as state
 use Rattle.tn_thread.specs.declared.thread.Thread.{Thread}
+use Rattle.tn_thread.specs.Dispatch.{at_firmware, dispatch}
 use Rattle.tn_thread.specs.Sight.{Sight}
 use Rattle.tn_thread.specs.Step.{Stepped, runnable, turned}
 use Rattle.tn_tile.specs.TileView.{TilePlan, TileState}
@@ -45,9 +47,28 @@ fetched_by (state.Answered value) code t = record { thread = t; effect = effect.
 fetched_by (state.Dead value) code t = record { thread = t; effect = effect.Next }
 fetched_by (state.Trapped why) code t = record { thread = t; effect = effect.Next }
 
+-- the softswitch of a thread that is at the firmware's address, where no code stands
+abbrev pub due_at : Option (Option Instr) → Thread → Option SwitchModel
+due_at None t = at_firmware t
+due_at (Some word) t = None
+
+-- the softswitch of a thread that runs and has to make a dispatch
+abbrev pub due_by : ThreadState → List (Option Instr) → Thread → Option SwitchModel
+due_by state.Run code t = due_at (slice_get code (t.pc / 4)) t
+due_by (state.Wait waits) code t = None
+due_by (state.Idle vote) code t = None
+due_by (state.Answered value) code t = None
+due_by (state.Dead value) code t = None
+due_by (state.Trapped why) code t = None
+
+-- a dispatch of the softswitch that is due, or else the step of an instruction or of a thread that is resumed
+abbrev pub step_by : Option SwitchModel → List (Option Instr) → Sight → Thread → Stepped
+step_by None code seen t = let f = fetched_by t.state code t in turned f.effect seen f.thread
+step_by (Some s) code seen t = dispatch s seen t
+
 -- the next step of a thread over this code: the new thread, and what it asks of its tile
 abbrev pub next_step : List (Option Instr) → Sight → Thread → Stepped
-next_step code seen t = let f = fetched_by t.state code t in turned f.effect seen f.thread
+next_step code seen t = step_by (due_by t.state code t) code seen t
 
 -- what stands past the last thread
 abbrev pub no_thread : Thread
@@ -67,6 +88,8 @@ no_thread = record {
   mask_high = 0;
   mem = record { bytes = []; made = [] };
   out = record { bytes = []; last = 0 };
+  hand = 0;
+  switch = None;
 }
 
 -- the thread at a place of the tile, and the packet that it sent and that is not delivered yet

@@ -93,7 +93,8 @@ impl Tile {
             can_send: self.state.pending.is_free(place),
         };
         let mut thread = self.state.threads.get(place).copy()?;
-        Ok(advance(self.plan.code(), &mut thread, &sight, &mut stock))
+        let ask = advance(self.plan.code(), &mut thread, &sight, &mut stock);
+        Ok(thread.op_of(ask))
     }
 
     /// Whether the thread at a place can make a step.

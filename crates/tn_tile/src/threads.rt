@@ -2,11 +2,13 @@
 
 ghost use Rattle.std.specs.Prelude.{◌≡◌, ◌≤◌, ◌<◌, ◌↔◌, ◌+◌, ◌^◌, IfOk, IsTrue, length, map, slice_index_or, slice_set};
 ghost use Rattle.tn_tile.specs.Alone.{RanAlone, Stops};
+ghost use Rattle.tn_tile.specs.Kept.{with_switches};
 ghost use Rattle.tn_tile.specs.Receivers.{is_dead};
 ghost use Rattle.tn_tile.specs.Rows.{told};
 ghost use Rattle.tn_tile.specs.Step.{no_thread};
 
 use crate::alone::run_code;
+use polite_switch::switch::Switch;
 use rv_isa::instr::Instr;
 use std::alloc::AllocError;
 use std::marker::Model;
@@ -116,6 +118,17 @@ impl Threads {
     {
         same_threads(&self.items, &other.items)
     }
+}
+
+/// The threads with their softswitches: the first thread gets the first, and so on.
+pub(crate) fn with_switches(mut threads: Vec<Thread>, mut switches: Vec<Switch>) -> Vec<Thread>
+    requires { length switches.items ≤ length threads.items }
+    ensures { result.items ≡ with_switches threads.items switches.items }
+{
+    while let Some(switch) = switches.pop() {
+        threads[switches.len()].give_switch(switch);
+    }
+    threads
 }
 
 /// Whether a thread has ended.

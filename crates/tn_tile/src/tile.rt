@@ -3,7 +3,7 @@
 ghost use Rattle.std.specs.Prelude.{◌≡◌, ◌≤◌, ◌<◌, ◌↔◌, IfOk, IsTrue, is_some, length, map, option_copied, Option, None, Some};
 ghost use Rattle.tn_base.specs.Address.{has_tile, place_in_tile, tile_of, tile_threads};
 ghost use Rattle.tn_node.specs.PortRows.{at};
-ghost use Rattle.tn_tile.specs.Kept.{AreStarts, WellShaped, fresh_state, fresh_tile};
+ghost use Rattle.tn_tile.specs.Kept.{AreStarts, WellShaped, fresh_state, fresh_tile, with_switches};
 ghost use Rattle.tn_tile.specs.Ready.{IsFirst};
 ghost use Rattle.tn_tile.specs.Rows.{can_count, is_here, sender_of};
 ghost use Rattle.tn_tile.specs.Step.{can_step, pending_at, thread_at};
@@ -14,7 +14,8 @@ use crate::plan::Plan;
 use crate::ready::all_ready;
 use crate::sender::Senders;
 use crate::state::TileState;
-use crate::threads::Threads;
+use crate::threads::{Threads, with_switches};
+use polite_switch::switch::Switch;
 use std::alloc::{AllocError, Global};
 use std::marker::Model;
 use tn_base::event::Trap;
@@ -69,20 +70,23 @@ fn start_of(alloc: Global, shape: &Shape, threads: Vec<Thread>) -> Result<TileSt
 }
 
 impl Tile {
-    /// A tile at its start, over the code that these words make, with its threads at their start.
+    /// A tile at its start, over the code that these words make, with its threads at their start. In a graph job there is a
+    /// softswitch for each thread.
     pub fn of(
         alloc: Global,
         shape: &Shape,
         tile: TileId,
         code: &[u32],
         threads: Vec<Thread>,
+        switches: Vec<Switch>,
     ) -> Result<Tile, AllocError>
         requires tile { IsTrue (has_tile shape.now tile.0) }
-        requires threads { AreStarts shape.now tile.0 threads.items }
-        ensures { IfOk result (λ t. t ≡ fresh_tile shape.now tile.0 code.now threads.items) }
+        requires few { length switches.items ≤ length threads.items }
+        requires threads { AreStarts shape.now tile.0 (with_switches threads.items switches.items) }
+        ensures { IfOk result (λ t. t ≡ fresh_tile shape.now tile.0 code.now (with_switches threads.items switches.items)) }
     {
         let plan = Plan::of(alloc, shape, tile, code)?;
-        let state = start_of(alloc, shape, threads)?;
+        let state = start_of(alloc, shape, with_switches(threads, switches))?;
         let ready = all_ready(&plan, &state);
         Ok(Tile {
             plan,
@@ -112,6 +116,14 @@ impl Tile {
         ensures { result.now ≡ thread_at self.now.now (place_in_tile self.now.plan.shape t.0) }
     {
         self.state.threads.get(self.plan.place(t))
+    }
+
+    /// The softswitch of a thread of a graph job.
+    pub fn switch(&self, t: ThreadId) -> Option<&Switch>
+        requires { IsTrue (is_here self.now.plan t.0) }
+        ensures { option_copied result ≡ (thread_at self.now.now (place_in_tile self.now.plan.shape t.0)).switch }
+    {
+        self.thread(t).switch()
     }
 
     /// The threads by ascending address.

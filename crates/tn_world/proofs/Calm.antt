@@ -8,9 +8,9 @@ use Rattle.tn_base.specs.declared.event.Event.{Event}
 use Rattle.tn_base.specs.declared.event.Event.TheVariants as event
 use Rattle.tn_base.specs.declared.event.Outcome.{Outcome}
 use Rattle.tn_base.specs.declared.ids.PartId.{PartId}
-use Rattle.tn_world.specs.declared.detector.Visit.{Visit}
-use Rattle.tn_world.specs.declared.detector.Visit.TheVariants as visit
-use Rattle.tn_world.specs.Visits.{visit_event}
+use Rattle.tn_part.specs.declared.visit.Visit.{Visit}
+use Rattle.tn_part.specs.declared.visit.Visit.TheVariants as visit
+use Rattle.tn_part.specs.Visits.{visit_event}
 use Rattle.tn_rows.specs.Ends.{final_after, final_of, last_of}
 use Rattle.tn_rows.specs.Events.{happened, Rests}
 use Rattle.tn_rows.specs.Runs.{IsLongest, LongTurns, Run}
@@ -19,7 +19,7 @@ use Rattle.tn_base.specs.Does.{Does}
 use Rattle.tn_tile.specs.declared.deliver.Did.{Did}
 use Rattle.tn_tile.specs.declared.deliver.Did.TheVariants as did_as
 use Rattle.tn_tile.specs.Turns.{moved}
-use Rattle.tn_world.proofs.Crossings.{does_some}
+use Rattle.tn_part.proofs.Crossings.{does_some}
 use Rattle.tn_world.proofs.Listed.{first_some, is_here}
 use Rattle.tn_world.specs.declared.play.Made.{Made}
 use Rattle.tn_world.specs.Plays.{First, Makes, MakesOr, Played, Reached, Told}

@@ -1,13 +1,5 @@
 pub mod Calm
-pub mod Crossings
-pub mod Keeping
 pub mod Listed
-pub mod Noting
-pub mod Others
 pub mod Pairs
 pub mod Places
 pub mod Rests
-pub mod Sites
-pub mod Steps
-pub mod Visits
-pub mod Ways

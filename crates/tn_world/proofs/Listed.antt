@@ -21,8 +21,8 @@ use Rattle.tn_stamp.specs.declared.entry.Crossing.TheVariants as crossing
 use Rattle.tn_tile.specs.Rows.{turn_row}
 use Rattle.tn_tile.specs.declared.state.TileState.{TileState}
 use Rattle.tn_tile.specs.TileView.{TileView, now_by}
-use Rattle.tn_world.proofs.Others.{joined, stands}
-use Rattle.tn_world.proofs.Steps.{row_one}
+use Rattle.tn_rows.proofs.Others.{joined, stands}
+use Rattle.tn_part.proofs.Steps.{row_one}
 use Rattle.tn_world.specs.Plays.{First, NoneOf}
 
 -- ---- turns of one step stand for all

@@ -16,8 +16,9 @@ use Rattle.tn_rows.specs.Places.{two_if}
 use Rattle.tn_rows.specs.WorldView.{WorldView}
 use Rattle.tn_tile.specs.declared.deliver.Did.{Did}
 use Rattle.tn_tile.specs.Turns.{moved}
-use Rattle.tn_world.specs.Joint.{DoesBoth, DoesBothOr, set_both}
-use Rattle.tn_world.proofs.Keeping.{apart, both_keep}
+use Rattle.tn_part.specs.Joint.{DoesBoth, DoesBothOr}
+use Rattle.tn_world.specs.Joint.{set_both}
+use Rattle.tn_rows.proofs.Keeping.{apart, both_keep}
 
 -- ---- two parts of one list
 

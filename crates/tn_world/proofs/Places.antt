@@ -20,7 +20,8 @@ use Rattle.tn_tile.specs.declared.deliver.Did.{Did}
 use Rattle.tn_tile.specs.declared.step.Turned.{Turned}
 use Rattle.tn_tile.specs.declared.step.Turned.TheVariants as turned
 use Rattle.tn_tile.specs.Turns.{moved}
-use Rattle.tn_world.specs.Plays.{Turns, TurnsPart}
+use Rattle.tn_world.specs.Plays.{Turns}
+use Rattle.tn_part.specs.Turning.{TurnsPart}
 use Rattle.tn_rows.specs.Ends.{ended_on, final_of}
 use Rattle.tn_rows.specs.Events.{after, happened, happened_at, with_part, FitsKind, IsWorld}
 use Rattle.tn_rows.specs.Places.{One, at_part, is_router, one_if, part_of, places}
@@ -28,7 +29,7 @@ use Rattle.tn_stamp.specs.declared.entry.Crossing.TheVariants as crossing
 use Rattle.tn_rows.specs.PartView.{PartView, TileV, RouterV, LinkV, HostV, DetectorV, AbsentV}
 use Rattle.tn_rows.specs.WorldView.{WorldView}
 use Rattle.tn_rows.proofs.Meeting.{some_mapped}
-use Rattle.tn_world.proofs.Keeping.{kind_stays, world_keeps}
+use Rattle.tn_rows.proofs.Keeping.{kind_stays, world_keeps}
 
 -- what stands at a place of a machine
 pub record At (w : WorldView) (p : ℕ) (part : PartView) : Type 0 where
@@ -107,11 +108,6 @@ does_or_keeps w e p old new (Ok did) a d i = does_keeps w e p old new (moved did
 does_or_keeps w e p old new (Err x) a d i = world_keeps w p old new (read w p old a) (λ f. rw d f) i
 
 -- ---- routings: a part that is a router stands where the shape names one
-
--- what a call does on what a part is, it does on the part
-pub does_mapped : {A B : Type 0} (f : A → B) (h : Bool) (o : Option A) (old new : A) → Does h o old new → Does h (option_map f o) (f old) (f new)
-does_mapped f h None old new d = (d.0, ap f d.1)
-does_mapped f h (Some v) old new d = (d.0, ap f d.1)
 
 only_routers : (n : ShapeNumbers) (k : Kind) (p : PartId) (part : PartView) → is_router k ≡ false → FitsKind n k part → after (event.Route p) crossing.None part ≡ None
 only_routers n k p (TileV v) e f = refl

@@ -16,12 +16,12 @@ use Rattle.tn_rows.specs.Listed.{arrivals, arrivals_from, by_part, confirmations
 use Rattle.tn_rows.specs.Places.{detector_part, is_router, leads_from, leads_to, one_if, two_if}
 use Rattle.tn_rows.specs.WorldView.{WorldView}
 use Rattle.tn_world.proofs.Listed.{first_left, first_mapped, first_right, flat_none, if_none, mapped_none, named, no_thread, no_turns, none_append, none_left, none_mapped_all, none_right, some_is}
-use Rattle.tn_world.proofs.Others.{high_past, low_past, part_past}
-use Rattle.tn_world.proofs.Visits.{visit_is}
-use Rattle.tn_world.specs.declared.detector.Visit.{Visit}
-use Rattle.tn_world.specs.declared.detector.Visit.TheVariants as visit
+use Rattle.tn_rows.proofs.Others.{high_past, low_past, part_past}
+use Rattle.tn_part.proofs.Visits.{visit_is}
+use Rattle.tn_part.specs.declared.visit.Visit.{Visit}
+use Rattle.tn_part.specs.declared.visit.Visit.TheVariants as visit
 use Rattle.tn_world.specs.Plays.{First, NoneOf}
-use Rattle.tn_world.specs.Visits.{visit_event}
+use Rattle.tn_part.specs.Visits.{visit_event}
 
 -- ---- visits, by part
 

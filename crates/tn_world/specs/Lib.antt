@@ -1,5 +1,3 @@
 pub mod Joint
 pub mod Plays
-pub mod Sites
-pub mod Views
-pub mod Visits
+pub mod Sited

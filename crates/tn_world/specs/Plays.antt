@@ -1,44 +1,22 @@
 -- What turns, and runs of them, leave.
-use Rattle.std.specs.Prelude.{ℕ, ◌≡◌, ◌≤◌, ◌<◌, ◌⊎◌, Bool, true, false, not, List, [], ◌∷◌, length, Option, Some, None, IsSome, MatchOption, MatchResult, is_some}
+use Rattle.std.specs.Prelude.{ℕ, ◌≡◌, ◌≤◌, ◌<◌, ◌⊎◌, Bool, List, [], ◌∷◌, length, Option, Some, None, IsSome, MatchOption, MatchResult, is_some}
 use Rattle.std.specs.declared.alloc.AllocError.{AllocError}
 use Rattle.std.specs.declared.result.Result.{Result}
 use Rattle.tn_base.specs.declared.event.Event.{Event}
 use Rattle.tn_base.specs.declared.event.Event.TheVariants as event
 use Rattle.tn_base.specs.declared.ids.ThreadId.{ThreadId}
 use Rattle.tn_rows.specs.Ends.{final_after, final_of, last_of}
-use Rattle.tn_rows.specs.Events.{after, happened, Rests}
-use Rattle.tn_rows.specs.PartView.{PartView, TileV, RouterV, LinkV, HostV, DetectorV, AbsentV}
+use Rattle.tn_rows.specs.Events.{happened, Rests}
 use Rattle.tn_rows.specs.Runs.{IsLongest, LongTurns, Run}
 use Rattle.tn_rows.specs.WorldView.{WorldView}
-use Rattle.tn_node.specs.PortRows.{all_empty}
 use Rattle.tn_world.specs.declared.play.Made.{Made}
-use Rattle.tn_stamp.specs.declared.entry.Crossing.TheVariants as crossing
 use Rattle.tn_tile.specs.declared.step.Turned.{Turned}
 use Rattle.tn_tile.specs.declared.step.Turned.TheVariants as turned
 
--- a turn on a part is the longest one, or there is none and nothing changes
-abbrev pub TurnsPart : Turned → ThreadId → PartView → PartView → Type 0
-TurnsPart (turned.Moved n) t old new = (after (event.Turn t n) crossing.None old ≡ Some new) × ((m : ℕ) → n < m → after (event.Turn t m) crossing.None old ≡ None)
-TurnsPart turned.Nothing t old new = (new ≡ old) × ((m : ℕ) → after (event.Turn t m) crossing.None old ≡ None)
-
--- the same of a machine
+-- a turn of a machine is the longest one, or there is none and nothing changes
 abbrev pub Turns : Turned → ThreadId → WorldView → WorldView → Type 0
 Turns (turned.Moved n) t old new = (happened (event.Turn t n) old ≡ Some new) × ((m : ℕ) → n < m → happened (event.Turn t m) old ≡ None)
 Turns turned.Nothing t old new = (new ≡ old) × ((m : ℕ) → happened (event.Turn t m) old ≡ None)
-
--- a turn was made
-abbrev pub did_turn : Turned → Bool
-did_turn (turned.Moved n) = true
-did_turn turned.Nothing = false
-
--- a packet waits on a part for a way out; on the host no packet waits
-abbrev pub offers : PartView → Bool
-offers (TileV v) = not (all_empty v.now.node.out)
-offers (RouterV v) = not (all_empty v.now.node.out)
-offers (LinkV v) = false
-offers (HostV s) = false
-offers (DetectorV v) = false
-offers AbsentV = false
 
 -- the machine makes an event; a turn is the longest one
 pub record Makes (e : Event) (old new : WorldView) : Type 0 where

@@ -10,18 +10,17 @@
 ghost use Rattle.std.specs.Prelude.{◌<◌};
 ghost use Rattle.tn_base.specs.Address.{tile_threads};
 
-use crate::part::Contents;
-use crate::site::Site;
 use crate::world::World;
 use std::alloc::{AllocError, Global};
 use tn_base::event::Event;
 use tn_base::ids::{PartId, ThreadId};
 use tn_base::part::Kind;
 use tn_base::port::Port;
-use tn_base::shape::Shape;
 use tn_detect::phase::Phase;
 use tn_host::host::Host;
 use tn_link::link::Link;
+use tn_part::part::Contents;
+use tn_part::site::{Site, Sites};
 use tn_router::router::Router;
 use tn_tile::tile::Tile;
 
@@ -140,10 +139,10 @@ pub(crate) struct Agenda {
 
 impl Agenda {
     /// The agenda of a machine at the first part. Something may happen on every part.
-    pub(crate) fn of(alloc: Global, shape: &Shape, sites: &[Site]) -> Result<Agenda, AllocError> {
-        let first_link = shape.visited();
-        let stops = stops_of(alloc, first_link, sites)?;
-        let ends = ends_of(alloc, &stops, sites)?;
+    pub(crate) fn of(alloc: Global, sites: &Sites) -> Result<Agenda, AllocError> {
+        let first_link = sites.shape().visited();
+        let stops = stops_of(alloc, first_link, sites.all())?;
+        let ends = ends_of(alloc, &stops, sites.all())?;
         let mut agenda = Agenda {
             stops,
             ends,
@@ -202,7 +201,7 @@ impl Agenda {
 
     /// The next event of the detector; None if it waits for a part.
     fn event_of_detector<L: Link>(&mut self, world: &World<L>) -> Option<Event> {
-        let Contents::Detector(detector) = &world.parts.last()?.contents else {
+        let Contents::Detector(detector) = world.parts.last()?.contents() else {
             return None;
         };
         match detector.phase() {
@@ -303,7 +302,7 @@ impl Agenda {
     /// The next event of the part in hand, kind by kind. None ends the visit: the next visit begins at the first kind.
     fn event<L: Link>(&mut self, world: &World<L>) -> Option<Event> {
         let part = world.parts.get(self.at as usize)?;
-        let found = match &part.contents {
+        let found = match part.contents() {
             Contents::Tile(tile) => self.event_of_tile(world, tile),
             Contents::Router(router) => self.event_of_router(world, router),
             Contents::Host(host) => self.event_of_host(world, host),

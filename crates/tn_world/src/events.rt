@@ -9,11 +9,10 @@ ghost use Rattle.tn_rows.specs.Events.{Rests, happened};
 ghost use Rattle.tn_rows.specs.Listed.{arrivals, arrivals_from, by_part, deliveries, departures, departures_from, listed, of_detector, of_host, routings, turns};
 ghost use Rattle.tn_rows.specs.Places.{part_of};
 ghost use Rattle.tn_tile.specs.Turns.{StockLasts, moved};
-ghost use Rattle.tn_world.specs.Plays.{First, NoneOf, Turns, did_turn};
-ghost use Rattle.tn_world.specs.Visits.{visit_event};
+ghost use Rattle.tn_world.specs.Plays.{First, NoneOf, Turns};
+ghost use Rattle.tn_part.specs.Turning.{did_turn};
+ghost use Rattle.tn_part.specs.Visits.{visit_event};
 
-use crate::detector::Visit;
-use crate::part::{LastTurn, Part};
 use crate::world::World;
 use std::alloc::AllocError;
 use tn_base::event::{Event, Outcome};
@@ -21,6 +20,8 @@ use tn_base::ids::{PartId, ThreadId};
 use tn_base::laws::law_threads;
 use tn_link::link::Link;
 use tn_pages::stock::PageStock;
+use tn_part::part::{LastTurn, Part};
+use tn_part::visit::Visit;
 use tn_tile::deliver::Did;
 
 /// One event, where it is enabled. A turn's steps are made on a copy of its tile, which takes memory, and so does a letter that

@@ -1,4 +1,4 @@
-//! A machine: its parts, and the events on them.
+//! Machines in memory: one event, the first event that is enabled, and runs on one thread.
 //!
 //! What an event makes of a machine stands in `tn_rows`. Read `events::step` and `play::play` first.
 #![tactic(auto)]
@@ -8,7 +8,5 @@ mod detector;
 pub mod events;
 mod host;
 mod links;
-pub mod part;
 pub mod play;
-mod site;
 pub mod world;

@@ -7,7 +7,6 @@ ghost use Rattle.tn_rows.specs.Events.{Rests, happened};
 ghost use Rattle.tn_world.specs.Plays.{MakesOr, Played, Reached, Told};
 
 use crate::agenda::Agenda;
-use crate::detector::Visit;
 use crate::events::{enabled, final_of};
 use crate::world::World;
 use std::alloc::AllocError;
@@ -15,6 +14,7 @@ use tn_base::event::Event;
 use tn_base::ids::ThreadId;
 use tn_link::link::Link;
 use tn_pages::stock::{FULL, PageStock};
+use tn_part::visit::Visit;
 use tn_tile::deliver::Did;
 use tn_tile::step::Turned;
 
@@ -27,7 +27,7 @@ pub fn play<L: Link>(world: &mut World<L>, limit: u64) -> Result<Vec<Event>, All
     ensures { MatchResult result (λ history. Played limit world.old history.items world.new) (λ _. Reached limit world.old world.new) }
 {
     let alloc = world.parts.allocator().clone()?;
-    let mut agenda = Agenda::of(alloc, &world.shape, &world.sites)?;
+    let mut agenda = Agenda::of(alloc, &world.sites)?;
     let mut history = Vec::new(alloc);
     let mut stock = PageStock::of(alloc);
     while (history.len() as u64) < limit {

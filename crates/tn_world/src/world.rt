@@ -5,31 +5,31 @@ ghost use Rattle.tn_base.specs.Parts.{part_count};
 ghost use Rattle.tn_rows.specs.Events.{IsWorld};
 ghost use Rattle.tn_rows.specs.PartView.{AbsentV};
 
-use crate::part::Part;
-use crate::site::{Site, sites_of};
 use std::alloc::AllocError;
 use std::marker::Model;
 use tn_base::ids::PartId;
 use tn_base::shape::Shape;
 use tn_link::link::Link;
+use tn_part::part::Part;
+use tn_part::site::Sites;
 
 /// A machine: its shape, one part for each part of the shape, and what the shape says of each place.
 #[derive(Drop)]
 pub struct World<L: Link> {
     pub(crate) shape: Shape,
     pub(crate) parts: Vec<Part<L>>,
-    pub(crate) sites: Vec<Site>,
+    pub(crate) sites: Sites,
 }
 
 impl<L: Link> Model for World<L> {
     ghost use Rattle.tn_rows.specs.WorldView.{WorldView};
-    ghost use Rattle.tn_world.specs.Sites.{IsSited};
+    ghost use Rattle.tn_world.specs.Sited.{IsSited};
 
     ghost Value = { WorldView };
 
     ghost view = { λ w. record { shape = w.shape; parts = w.parts.items } };
 
-    ghost invariant = { λ w. IsSited (record { shape = w.shape; parts = w.parts.items }) w.sites.items };
+    ghost invariant = { λ w. IsSited (record { shape = w.shape; parts = w.parts.items }) w.sites };
 }
 
 impl<L: Link> World<L> {
@@ -38,7 +38,7 @@ impl<L: Link> World<L> {
         requires { IsWorld (record { shape = shape; parts = parts.items }) }
         ensures { IfOk result (λ w. w ≡ record { shape = shape; parts = parts.items }) }
     {
-        let sites = sites_of(parts.allocator().clone()?, &shape)?;
+        let sites = Sites::of(parts.allocator().clone()?, &shape)?;
         Ok(World {
             shape,
             parts,
@@ -83,7 +83,7 @@ impl<L: Link> World<L> {
         Ok(World {
             shape: self.shape,
             parts,
-            sites: self.sites.clone()?,
+            sites: self.sites.copy()?,
         })
     }
 

@@ -1,6 +1,6 @@
 use Rattle.std.proofs.Common.{◌≡◌, ◌<◌, ◌++◌, ◌∙◌, arith, length, set, sym}
 use Rattle.tn_tile.specs.Turns.{moved}
-use Rattle.tn_world.specs.Visits.{visit_event}
+use Rattle.tn_part.specs.Visits.{visit_event}
 use Rattle.tn_world.proofs.Pairs.{both_placed, parts_long, written}
 use Rattle.tn_world.proofs.detector.visit_at.Goals as goal
 

@@ -7,7 +7,7 @@ use Rattle.tn_rows.specs.Events.{happened}
 use Rattle.tn_rows.specs.Listed.{by_part, part_id}
 use Rattle.tn_rows.specs.WorldView.{WorldView}
 use Rattle.tn_world.specs.Plays.{First}
-use Rattle.tn_world.specs.Visits.{visit_event}
+use Rattle.tn_part.specs.Visits.{visit_event}
 use Rattle.tn_world.proofs.Listed.{more}
 use Rattle.tn_world.proofs.Rests.{NoVisit, first_visit, no_visit}
 use Rattle.tn_world.proofs.events.first_visit.Goals as goal

@@ -6,7 +6,7 @@ use Rattle.tn_rows.specs.Events.{happened}
 use Rattle.tn_rows.specs.Runs.{IsLongest}
 use Rattle.tn_tile.specs.Turns.{moved}
 use Rattle.tn_world.proofs.Calm.{makes, visit_made}
-use Rattle.tn_world.specs.declared.detector.Visit.TheVariants as visit
+use Rattle.tn_part.specs.declared.visit.Visit.TheVariants as visit
 use Rattle.tn_world.proofs.play.make_without.Goals as goal
 
 pub returns-in-Route : goal.returns-in-Route

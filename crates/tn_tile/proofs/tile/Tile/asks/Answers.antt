@@ -6,8 +6,8 @@ use Rattle.tn_tile.specs.TileView.{TileView}
 use Rattle.tn_tile.proofs.Made.{can_run}
 use Rattle.tn_tile.proofs.tile.Tile.asks.Goals as goal
 
-pub advance-requires-clause-fuel : goal.advance-requires-clause-fuel
-advance-requires-clause-fuel c =
+pub advance-ask-requires-clause-fuel : goal.advance-ask-requires-clause-fuel
+advance-ask-requires-clause-fuel c =
     let v : TileView = record { plan = c.self.inside.plan; now = c.self.inside.state } in
     let k = c.place-place.result in
     let here : is_here v.plan c.args.t.0 ≡ true = rw (← c.self.view_is) at c.requires.here in
@@ -16,8 +16,8 @@ advance-requires-clause-fuel c =
     let same : c.in_ok-thread.thread ≡ thread_at v.now k = c.in_ok-thread.ensures ∙ c.get.ensures in
     rw same (can_run v.plan k v.now below c.self.invariant.shaped.fits can).fuel
 
-pub advance-requires-clause-runnable : goal.advance-requires-clause-runnable
-advance-requires-clause-runnable c =
+pub advance-ask-requires-clause-runnable : goal.advance-ask-requires-clause-runnable
+advance-ask-requires-clause-runnable c =
     let v : TileView = record { plan = c.self.inside.plan; now = c.self.inside.state } in
     let k = c.place-place.result in
     let here : is_here v.plan c.args.t.0 ≡ true = rw (← c.self.view_is) at c.requires.here in

@@ -6,7 +6,7 @@ use Rattle.tn_rows.specs.Places.{One, detector_part}
 use Rattle.tn_rows.specs.WorldView.{WorldView}
 use Rattle.tn_tile.specs.Turns.{moved}
 use Rattle.tn_world.proofs.Places.{At, does_keeps, does_world}
-use Rattle.tn_world.proofs.Ways.{detector_there}
+use Rattle.tn_rows.proofs.Ways.{detector_there}
 use Rattle.tn_world.proofs.world.World.announce.Goals as goal
 
 pub invariant_of-self : goal.invariant_of-self

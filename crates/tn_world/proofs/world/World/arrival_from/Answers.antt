@@ -9,7 +9,7 @@ use Rattle.tn_rows.specs.Listed.{arrivals_from, part_id}
 use Rattle.tn_rows.specs.WorldView.{WorldView}
 use Rattle.tn_world.specs.Plays.{NoneOf}
 use Rattle.tn_world.proofs.Listed.{NoArrival, first_arrival_from, more, no_arrival_from}
-use Rattle.tn_world.proofs.Others.{none_arrives}
+use Rattle.tn_rows.proofs.Others.{none_arrives}
 use Rattle.tn_world.proofs.Places.{read}
 use Rattle.tn_world.proofs.world.World.arrival_from.Goals as goal
 

@@ -7,7 +7,7 @@ use Rattle.tn_rows.specs.Places.{One, detector_part}
 use Rattle.tn_rows.specs.WorldView.{WorldView}
 use Rattle.tn_stamp.specs.declared.entry.Crossing.TheVariants as crossing
 use Rattle.tn_world.proofs.Places.{At, at_place}
-use Rattle.tn_world.proofs.Ways.{detector_there}
+use Rattle.tn_rows.proofs.Ways.{detector_there}
 use Rattle.tn_world.proofs.world.World.can_begin.Goals as goal
 
 pub returns : goal.returns

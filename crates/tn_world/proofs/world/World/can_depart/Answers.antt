@@ -1,38 +1,38 @@
-use Rattle.std.proofs.Common.{◌≡◌, ◌∙◌, ap, arith, is_some, subst, sym}
+use Rattle.std.proofs.Common.{◌≡◌, ◌∙◌, arith, is_some, subst, sym}
 use Rattle.tn_base.specs.declared.event.Event.TheVariants as event
 use Rattle.tn_base.specs.Parts.{kind_of}
 use Rattle.tn_rows.specs.PartView.{PartView}
 use Rattle.tn_rows.specs.Events.{happened}
 use Rattle.tn_rows.specs.Places.{leads_from}
 use Rattle.tn_rows.specs.WorldView.{WorldView}
-use Rattle.tn_world.specs.Joint.{IsLink, IsWay}
+use Rattle.tn_rows.specs.Roles.{IsLink, IsWay}
 use Rattle.tn_world.proofs.Pairs.{can_both, seen}
-use Rattle.tn_world.proofs.Ways.{Leads, leads}
+use Rattle.tn_rows.proofs.Ways.{Leads, leads}
 use Rattle.tn_world.proofs.Places.{At, read}
 use Rattle.tn_world.proofs.world.World.can_depart.Goals as goal
 
 pub index-requires : goal.index-requires
 index-requires g c =
     let w : WorldView = record { shape = c.self.inside.shape; parts = c.self.inside.parts.items } in
-    let joins : Leads w c.args.p.0 c.args.l.0 c.in-Some.way = leads w c.args.self.now.shape c.args.p.0 c.args.l.0 c.in-Some.way (ap (λ (w : WorldView). w.shape) c.self.view_is) c.in-Some.ensures c.law_links.ensures c.self.invariant.world in
+    let joins : Leads w c.args.p.0 c.args.l.0 c.in-Some.way = leads w c.self.inside.sites c.args.p.0 c.args.l.0 c.in-Some.way (sym c.self.invariant.all) c.in-Some.ensures c.law_links.ensures c.self.invariant.world in
     omega (arith, joins.pair.low, c.self.inside.parts.ok)
 
 pub can_depart-requires-clause-way : goal.can_depart-requires-clause-way
 can_depart-requires-clause-way g c =
     let w : WorldView = record { shape = c.self.inside.shape; parts = c.self.inside.parts.items } in
-    let joins : Leads w c.args.p.0 c.args.l.0 c.in-Some.way = leads w c.args.self.now.shape c.args.p.0 c.args.l.0 c.in-Some.way (ap (λ (w : WorldView). w.shape) c.self.view_is) c.in-Some.ensures c.law_links.ensures c.self.invariant.world in
+    let joins : Leads w c.args.p.0 c.args.l.0 c.in-Some.way = leads w c.self.inside.sites c.args.p.0 c.args.l.0 c.in-Some.way (sym c.self.invariant.all) c.in-Some.ensures c.law_links.ensures c.self.invariant.world in
     subst (λ (x : PartView). IsWay x c.args.l.0 c.in-Some.way) (seen w.parts c.args.p.0 c.index.result.now joins.pair.low c.index.ensures) joins.way_is
 
 pub can_depart-requires-clause-link : goal.can_depart-requires-clause-link
 can_depart-requires-clause-link g c =
     let w : WorldView = record { shape = c.self.inside.shape; parts = c.self.inside.parts.items } in
-    let joins : Leads w c.args.p.0 c.args.l.0 c.in-Some.way = leads w c.args.self.now.shape c.args.p.0 c.args.l.0 c.in-Some.way (ap (λ (w : WorldView). w.shape) c.self.view_is) c.in-Some.ensures c.law_links.ensures c.self.invariant.world in
+    let joins : Leads w c.args.p.0 c.args.l.0 c.in-Some.way = leads w c.self.inside.sites c.args.p.0 c.args.l.0 c.in-Some.way (sym c.self.invariant.all) c.in-Some.ensures c.law_links.ensures c.self.invariant.world in
     subst IsLink (seen w.parts c.args.l.0 c.index-in-Some.result.now joins.pair.high c.index-in-Some.ensures) joins.pair.link
 
 pub returns-in-Some : goal.returns-in-Some
 returns-in-Some g c =
     let w : WorldView = record { shape = c.self.inside.shape; parts = c.self.inside.parts.items } in
-    let joins : Leads w c.args.p.0 c.args.l.0 c.in-Some.way = leads w c.args.self.now.shape c.args.p.0 c.args.l.0 c.in-Some.way (ap (λ (w : WorldView). w.shape) c.self.view_is) c.in-Some.ensures c.law_links.ensures c.self.invariant.world in
+    let joins : Leads w c.args.p.0 c.args.l.0 c.in-Some.way = leads w c.self.inside.sites c.args.p.0 c.args.l.0 c.in-Some.way (sym c.self.invariant.all) c.in-Some.ensures c.law_links.ensures c.self.invariant.world in
     let low : At w c.args.p.0 c.index.result.now = record { within = joins.pair.low; is = c.index.ensures } in
     let high : At w c.args.l.0 c.index-in-Some.result.now = record { within = joins.pair.high; is = c.index-in-Some.ensures } in
     subst (λ (x : WorldView). c.can_depart.result ≡ is_some (happened (event.Depart c.args.p c.args.l) x)) c.self.view_is

@@ -4,10 +4,10 @@ use Rattle.tn_base.specs.Parts.{part_count}
 use Rattle.tn_rows.specs.Events.{happened, happened_at}
 use Rattle.tn_rows.specs.Places.{Two}
 use Rattle.tn_rows.specs.WorldView.{WorldView}
-use Rattle.tn_world.specs.Joint.{IsHost, IsLink}
+use Rattle.tn_rows.specs.Roles.{IsHost, IsLink}
 use Rattle.tn_world.proofs.Pairs.{can_both, seen}
 use Rattle.tn_world.proofs.Places.{At, read}
-use Rattle.tn_world.proofs.Ways.{HostPair, to_host_pair}
+use Rattle.tn_rows.proofs.Ways.{HostPair, to_host_pair}
 use Rattle.tn_world.proofs.world.World.can_take.Goals as goal
 
 pub can_take-requires-clause-host : goal.can_take-requires-clause-host

@@ -5,11 +5,12 @@ use Rattle.tn_base.specs.Parts.{visited}
 use Rattle.tn_rows.specs.Events.{happened, happened_at}
 use Rattle.tn_rows.specs.Places.{detector_part, two_if}
 use Rattle.tn_rows.specs.WorldView.{WorldView}
-use Rattle.tn_world.specs.Visits.{Visits, visit_event}
+use Rattle.tn_rows.specs.Roles.{Visits}
+use Rattle.tn_part.specs.Visits.{visit_event}
 use Rattle.tn_world.proofs.Pairs.{can_both, seen}
 use Rattle.tn_world.proofs.Places.{At, read}
-use Rattle.tn_world.proofs.Visits.{past_visited, visit_is}
-use Rattle.tn_world.proofs.Ways.{VisitPair, visit_pair}
+use Rattle.tn_part.proofs.Visits.{past_visited, visit_is}
+use Rattle.tn_rows.proofs.Ways.{VisitPair, visit_pair}
 use Rattle.tn_world.proofs.world.World.can_visit.Goals as goal
 
 pub index-requires : goal.index-requires

@@ -9,7 +9,7 @@ use Rattle.tn_rows.specs.Listed.{departures_from, part_id}
 use Rattle.tn_rows.specs.WorldView.{WorldView}
 use Rattle.tn_world.specs.Plays.{NoneOf}
 use Rattle.tn_world.proofs.Listed.{NoDeparture, first_departure_from, more, no_departure_from}
-use Rattle.tn_world.proofs.Others.{none_departs}
+use Rattle.tn_rows.proofs.Others.{none_departs}
 use Rattle.tn_world.proofs.Places.{read}
 use Rattle.tn_world.proofs.world.World.departure_from.Goals as goal
 

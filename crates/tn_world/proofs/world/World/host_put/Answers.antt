@@ -7,7 +7,7 @@ use Rattle.tn_rows.specs.Places.{Two}
 use Rattle.tn_rows.specs.WorldView.{WorldView}
 use Rattle.tn_tile.specs.Turns.{moved}
 use Rattle.tn_world.proofs.Pairs.{both_keeps, both_world}
-use Rattle.tn_world.proofs.Ways.{HostPair, from_host_pair}
+use Rattle.tn_rows.proofs.Ways.{HostPair, from_host_pair}
 use Rattle.tn_world.proofs.world.World.host_put.Goals as goal
 
 pub put_at-requires : goal.put_at-requires

@@ -7,7 +7,7 @@ use Rattle.tn_rows.specs.Places.{Two}
 use Rattle.tn_rows.specs.WorldView.{WorldView}
 use Rattle.tn_tile.specs.Turns.{moved}
 use Rattle.tn_world.proofs.Pairs.{both_keeps_or, both_world_or}
-use Rattle.tn_world.proofs.Ways.{HostPair, to_host_pair}
+use Rattle.tn_rows.proofs.Ways.{HostPair, to_host_pair}
 use Rattle.tn_world.proofs.world.World.host_take.Goals as goal
 
 pub take_at-requires : goal.take_at-requires

@@ -2,7 +2,7 @@ use Rattle.std.proofs.Common.{◌≡◌, ◌≤◌, None, false, arith, length, 
 use Rattle.std.specs.declared.option.Option.{Option}
 use Rattle.tn_base.specs.Parts.{kind_of}
 use Rattle.tn_rows.specs.Places.{is_router}
-use Rattle.tn_world.proofs.Others.{part_past}
+use Rattle.tn_rows.proofs.Others.{part_past}
 use Rattle.tn_base.specs.declared.event.Event.TheVariants as event
 use Rattle.tn_base.specs.Does.{Does}
 use Rattle.tn_tile.specs.Turns.{moved}

@@ -7,10 +7,10 @@ use Rattle.tn_rows.specs.Events.{happened, happened_at}
 use Rattle.tn_rows.specs.Places.{detector_part, two_if}
 use Rattle.tn_rows.specs.WorldView.{WorldView}
 use Rattle.tn_tile.specs.Turns.{moved}
-use Rattle.tn_world.specs.Visits.{visit_event}
+use Rattle.tn_part.specs.Visits.{visit_event}
 use Rattle.tn_world.proofs.Pairs.{both_keeps, both_world}
-use Rattle.tn_world.proofs.Visits.{past_visited, visit_is}
-use Rattle.tn_world.proofs.Ways.{VisitPair, visit_pair}
+use Rattle.tn_part.proofs.Visits.{past_visited, visit_is}
+use Rattle.tn_rows.proofs.Ways.{VisitPair, visit_pair}
 use Rattle.tn_world.proofs.world.World.visit.Goals as goal
 
 pub visit_at-requires : goal.visit_at-requires

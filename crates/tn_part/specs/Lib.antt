@@ -1,0 +1,7 @@
+pub mod Doing
+pub mod Joint
+pub mod Meeting
+pub mod Sites
+pub mod Turning
+pub mod Views
+pub mod Visits

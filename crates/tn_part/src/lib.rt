@@ -1,0 +1,16 @@
+//! The parts of a machine, and what an event makes of its own part, or of its two parts.
+//!
+//! What an event makes of a part stands in `tn_rows`. Read `part` first, then `links`, then `stamped`.
+#![tactic(auto)]
+
+mod detector;
+pub mod doing;
+mod fits;
+mod host;
+pub mod laws;
+mod links;
+mod meet;
+pub mod part;
+pub mod site;
+pub mod stamped;
+pub mod visit;

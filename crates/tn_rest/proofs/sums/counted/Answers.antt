@@ -1,0 +1,17 @@
+use Rattle.std.proofs.Common.{ap, arith}
+use Rattle.std.proofs.lemmas.Int.{ints}
+use Rattle.tn_rest.specs.declared.facts.Facts.{Facts}
+use Rattle.tn_rest.specs.Quiet.{counted}
+use Rattle.tn_rest.proofs.More.{sum_more}
+use Rattle.tn_rest.proofs.sums.counted.Goals as goal
+
+pub loop-k-preserved : goal.loop-k-preserved
+loop-k-preserved g c =
+    let s = sum_more (counted (g.M.Machine.seen c.args.machine.now)) c.loop-k.k in
+    let f = c.from-sum.ensures in
+    let h = ap (λ (p : Facts). p.view.counter) c.part.ensures in
+    record {
+      so_far = omega (arith, ints, s, f, h);
+      above = omega (arith, ints, f);
+      below = omega (arith, ints, f);
+    }

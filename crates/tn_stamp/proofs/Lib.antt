@@ -1,0 +1,4 @@
+pub mod Merged
+pub mod Rising
+pub mod Shorts
+pub mod Taking

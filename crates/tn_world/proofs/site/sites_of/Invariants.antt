@@ -1,6 +1,0 @@
-use Rattle.std.proofs.Common.{◌≡◌}
-use Rattle.tn_world.specs.Sites.{sites_to}
-use Rattle.tn_world.proofs.site.sites_of.Given as goal
-
-abbrev pub invariant-loop-p : goal.invariant-loop-p
-invariant-loop-p l = l.all.items ≡ sites_to l.shape l.p
