@@ -1,6 +1,7 @@
 pub mod Adds
 pub mod Apart
 pub mod Counts
+pub mod Devices
 pub mod Firsts
 pub mod Gathering
 pub mod Rosters

@@ -1,11 +1,12 @@
 -- The thread and device of each vertex.
-use Rattle.std.specs.Prelude.{ℕ, suc, ◌≡◌, ◌<◌, ◌+◌, ◌-◌, ◌*◌, ◌/◌, ◌%◌, ◌==◌, List, [], ◌∷◌, IsTrue, length, map, nat_lt, slice_index_or, if◌then◌else◌}
+use Rattle.std.specs.Prelude.{ℕ, suc, ◌≡◌, ◌<◌, ◌≤◌, ◌+◌, ◌-◌, ◌*◌, ◌/◌, ◌%◌, ◌==◌, List, [], ◌∷◌, IsTrue, length, map, nat_lt, slice_index_or, if◌then◌else◌}
 use Rattle.std.specs.List.{range_with_len}
 use Rattle.std.specs.declared.result.Result.{Result}
 use Rattle.std.specs.declared.result.Result.TheVariants.{Ok, Err}
 use Rattle.tn_base.specs.declared.shape.ShapeNumbers.{ShapeNumbers}
 use Rattle.tn_base.specs.Address.{has_thread, thread_at}
 use Rattle.tn_base.specs.Shape.{thread_count}
+use Rattle.tn_sums.specs.Totals.{total}
 use Rattle.polite_place.specs.declared.placement.Seat.{Seat}
 use Rattle.polite_place.specs.declared.placement.PlaceStop.{PlaceStop}
 use Rattle.polite_place.specs.declared.placement.PlaceStop.TheVariants.{Memory, TooMany}
@@ -46,6 +47,19 @@ Places (Err TooMany) answer = Err TooMany ≡ answer
 -- the seat of a vertex
 abbrev pub seat_of : List Seat → ℕ → Seat
 seat_of placement v = slice_index_or placement v (seat 0 0)
+
+-- the vertex has the thread of this address, of which it is one device
+abbrev pub device_on : List Seat → ℕ → ℕ → ℕ
+device_on placement a v = if (seat_of placement v).thread.0 == a then 1 else 0
+
+-- how many devices the thread of an address has: its vertices
+abbrev pub devices_on : List Seat → ℕ → ℕ
+devices_on placement a = total (device_on placement a) (length placement)
+
+-- the devices of each thread are numbered from 0, and there are at most so many
+pub record Numbered (per_thread : ℕ) (placement : List Seat) : Type 0 where
+  pub device : (v : ℕ) → v < length placement → (seat_of placement v).device < devices_on placement (seat_of placement v).thread.0
+  pub few : (a : ℕ) → devices_on placement a ≤ per_thread
 
 -- each vertex has a thread of the machine and one of its devices, and no other vertex has the same
 pub record Seated (n : ShapeNumbers) (per_thread : ℕ) (placement : List Seat) : Type 0 where

@@ -100,11 +100,11 @@ edge_given v es m placement ps e old new is f p all o w =
           get_or-set_other ps (e.from * 4 + e.pin) j new no_pin s ∙ ap (λ qs. get_or qs j no_pin) all ∙ first_pin_at v es m placement j no_pin h
           ∙ ap (pin_with placement (j / 4)) (sym (append-nil (first_targets es m placement j)) ∙ ap (λ b. first_targets es m placement j ++ cond b (target_of es placement m ∷ []) []) (sym there) ∙ sym (targets_more es m placement j))
 
--- each pin of a graph is there
-all_targets : (n : ShapeNumbers) (f : ℕ → Target) (p : ℕ → Bool) (a m : ℕ) → ((k : ℕ) → a ≤ k → k < a + m → has_thread n (f k).thread.0 ≡ true) → All (λ (t : Target). has_thread n t.thread.0 ≡ true) (map f (filter p (range_with_len a m)))
-all_targets n f p a zero h = λ k d l. absurd (omega arith)
-all_targets n f p a (suc m) h = by (p a) (all_targets n f p (a + 1) m (λ k x y. h k (omega arith) (omega arith))) where
-  by : (b : Bool) → All (λ (t : Target). has_thread n t.thread.0 ≡ true) (map f (filter p (range_with_len (a + 1) m))) → All (λ (t : Target). has_thread n t.thread.0 ≡ true) (map f (cond b (a ∷ filter p (range_with_len (a + 1) m)) (filter p (range_with_len (a + 1) m))))
+-- what holds of some of a range's targets
+pub all_targets : (P : Target → Type 0) (f : ℕ → Target) (p : ℕ → Bool) (a m : ℕ) → ((k : ℕ) → a ≤ k → k < a + m → P (f k)) → All P (map f (filter p (range_with_len a m)))
+all_targets P f p a zero h = λ k d l. absurd (omega arith)
+all_targets P f p a (suc m) h = by (p a) (all_targets P f p (a + 1) m (λ k x y. h k (omega arith) (omega arith))) where
+  by : (b : Bool) → All P (map f (filter p (range_with_len (a + 1) m))) → All P (map f (cond b (a ∷ filter p (range_with_len (a + 1) m)) (filter p (range_with_len (a + 1) m))))
   by true r zero d l = h a (omega arith) (omega arith)
   by true r (suc k) d l = r k d (omega arith)
   by false r k d l = r k d l
@@ -112,6 +112,7 @@ all_targets n f p a (suc m) h = by (p a) (all_targets n f p (a + 1) m (λ k x y.
 pub edge_there : (g : Graph) (k : ℕ) → IsGraph g → k < length g.edges → ((edge_row g.edges k).from < length g.vertices) × ((edge_row g.edges k).to < length g.vertices) × ((edge_row g.edges k).pin < pins_at g (edge_row g.edges k).from)
 edge_there g k h l = let e = h.edges k (record { line = 0; from = 0; pin = 0; to = 0; value = 0 }) l in (e.from, e.to, e.pin)
 
+-- each pin of a graph is there
 pub pins_there : (n : ShapeNumbers) (g : Graph) (placement : List Seat) → IsGraph g → length placement ≡ length g.vertices → Seated n g.per_thread placement → PinsThere n (pins_of g placement)
 pins_there n g placement h c s = record { each = λ j d l. one j d l } where
   one : (j : ℕ) (d : Pin) → j < length (pins_of g placement) → PinThere n (get_or (pins_of g placement) j d)
@@ -120,7 +121,7 @@ pins_there n g placement h c s = record { each = λ j d l. one j d l } where
       subst (λ (q : Pin). PinThere n q) (sym (first_pin_at (length g.vertices) g.edges (length g.edges) placement j d b)) (record {
         board = let x = parts n (seat_of placement (j / 4)).thread.0 (s.there (j / 4) (omega arith)) in (x.board_x, x.board_y);
         targets = record {
-          there = all_targets n (target_of g.edges placement) (λ k. comes_from (j / 4) (j % 4) (edge_row g.edges k)) 0 (length g.edges)
+          there = all_targets (λ (t : Target). has_thread n t.thread.0 ≡ true) (target_of g.edges placement) (λ k. comes_from (j / 4) (j % 4) (edge_row g.edges k)) 0 (length g.edges)
               (λ k x y. let e = edge_there g k h (omega arith) in s.there (edge_row g.edges k).to (let t = e.1 in omega arith));
         };
       })

@@ -2,6 +2,7 @@ pub mod Answer
 pub mod Full
 pub mod Hops
 pub mod InEdges
+pub mod Named
 pub mod Once
 pub mod Pack
 pub mod Passes

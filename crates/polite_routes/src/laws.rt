@@ -1,12 +1,16 @@
 //! Laws of routes. A law answers nothing: its contract is what it says.
 
-ghost use Rattle.std.specs.Prelude.{◌≡◌, ◌<◌, ℕ, List, Ok, length};
+ghost use Rattle.std.specs.Prelude.{◌≡◌, ◌≤◌, ◌<◌, ℕ, List, [], Ok, length, slice_index_or};
+ghost use Rattle.tn_base.specs.Shape.{thread_count};
 ghost use Rattle.graph_text.specs.Graph.{IsGraph};
 ghost use Rattle.polite_place.specs.Outs.{outs_of};
-ghost use Rattle.polite_place.specs.Seats.{Seated, placed};
+ghost use Rattle.polite_place.specs.Roster.{vertices_on};
+ghost use Rattle.polite_place.specs.Seats.{Numbered, Seated, devices_on, placed};
+ghost use Rattle.polite_switch.specs.Device.{AllNamed};
 ghost use Rattle.polite_routes.specs.declared.routes.RouteSet.{RouteSet};
 ghost use Rattle.polite_routes.specs.Answer.{AllServed, KeyedByEdges, routes_of};
 ghost use Rattle.polite_routes.specs.declared.target.Pin.{Pin};
+ghost use Rattle.polite_routes.specs.Named.{AllLead};
 ghost use Rattle.polite_routes.specs.Passes.{PassesButWidth};
 ghost use Rattle.polite_routes.specs.Routes.{PinRouted, PinsThere, in_lists, key_at, local_of, pin_at, tables_of};
 
@@ -37,6 +41,24 @@ pub fn law_served(shape: &Shape, graph: &Graph, placement: &Placement)
     ensures passes { (set : RouteSet) → Ok set ≡ routes_of shape.now graph.now placement.now → PassesButWidth shape.now set.tables }
     ensures count { length placement.now ≡ length graph.now.vertices }
     ensures seated { Seated shape.now graph.now.per_thread placement.now }
+{
+    let _numbers = shape.numbers();
+    let _graph = graph;
+    let _placement = placement;
+    law_seats(shape);
+}
+
+/// In the routes of a graph with its placement each in-edge of a thread leads to one of the thread's devices, of which there are
+/// at most 64, and each pin of a vertex has an entry among the vertex's keys. Thus a softswitch can be made of the devices of
+/// each thread and the thread's in-edges.
+pub fn law_devices(shape: &Shape, graph: &Graph, placement: &Placement)
+    requires graph { IsGraph graph.now }
+    requires placement { Ok placement.now ≡ placed shape.now graph.now.per_thread (outs_of graph.now) }
+    ensures lead { (set : RouteSet) → Ok set ≡ routes_of shape.now graph.now placement.now → AllLead shape.now graph.now placement.now set }
+    ensures roster { (set : RouteSet) (i : ℕ) → Ok set ≡ routes_of shape.now graph.now placement.now → i < thread_count shape.now →
+        AllNamed (length (vertices_on shape.now (outs_of graph.now) i)) (slice_index_or set.in_edges i []) }
+    ensures few { (a : ℕ) → devices_on placement.now a ≤ 64 }
+    ensures numbered { Numbered graph.now.per_thread placement.now }
 {
     let _numbers = shape.numbers();
     let _graph = graph;
