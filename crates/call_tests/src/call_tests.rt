@@ -18,6 +18,10 @@ const TWO: &[u8] = b"tinsel 1\nshape 1 1 1 1 1 2\ncode all\nf1402573\n80b51073\n
 /// A thread that spins, with 100 steps to make.
 const SPINS: &[u8] = b"tinsel 1\nshape 1 1 1 1 1 1\nfuel 100\ncode all\n0000006f\nend\n";
 
+/// A thread that is idle again and again, with 100 steps to make: the first one begins an idle, and each three more end it, jump back
+/// and begin the next.
+const IDLES: &[u8] = b"tinsel 1\nshape 1 1 1 1 1 1\nfuel 100\ncode all\n80a01573\nffdff06f\nend\n";
+
 /// The detector visits the host, the tile and the router, and announces that every thread has ended.
 const TWO_RUN: &[Event] = &[
     Event::Turn(ThreadId(0), 2),
@@ -91,13 +95,13 @@ fn sink_of(alloc: Global, case: &Case) -> Result<MemSink, Fail> {
     Ok(sink)
 }
 
-/// Makes the call of a case over what an earlier one kept. Whether it answered, wrote and kept what the case says.
-fn calls_so<H: Threads + Wait + Sync>(
+/// Makes the call of a case over what an earlier one kept. Gives the status and the sink.
+fn call<H: Threads + Wait + Sync>(
     rt: &H,
     alloc: Global,
     case: &Case,
     kept: &mut Kept,
-) -> Result<bool, Fail> {
+) -> Result<(Status, MemSink), Fail> {
     let words = words_of(alloc, case.words)?;
     let mut source = source_of(alloc, case)?;
     let mut sink = sink_of(alloc, case)?;
@@ -113,6 +117,17 @@ fn calls_so<H: Threads + Wait + Sync>(
             kept,
         ),
     };
+    Ok((status, sink))
+}
+
+/// Whether the call of a case answers, writes and keeps what the case says.
+fn calls_so<H: Threads + Wait + Sync>(
+    rt: &H,
+    alloc: Global,
+    case: &Case,
+    kept: &mut Kept,
+) -> Result<bool, Fail> {
+    let (status, sink) = call(rt, alloc, case, kept)?;
     let (machine, events) = case.kept;
     Ok(
         status == case.status
@@ -313,11 +328,83 @@ static CASES: [Case; 31] = [
     },
 ];
 
+/// The numbers of calls that fail, one at a time.
+static CALLS: [u32; 16] = [0, 1, 2, 3, 4, 5, 6, 7, 8, 9, 10, 11, 12, 13, 14, 15];
+
+/// The source of `RUN` gives four bytes a call, and fails at its k-th call: the last one of these finds the end.
+fn failing_source(k: usize) -> Case
+    requires { k < 16 }
+{
+    Case {
+        source: (4, &CALLS[k..][..1]),
+        status: Status::ReadFault,
+        ..NO_RUN
+    }
+}
+
+/// The sink of `RUN` takes four bytes a call, and fails at its k-th call, before it has all of the report.
+fn failing_sink(k: usize) -> Case
+    requires { k < 6 }
+{
+    Case {
+        sink: (4, &CALLS[k..][..1]),
+        status: Status::WriteFault,
+        written: &RUN.written[..4 * k],
+        ..RUN
+    }
+}
+
 #[test]
 fn calls(rt: HostRuntime) -> Result<(), Fail> {
     let mut kept = Kept::new(rt.alloc());
     for (k, case) in CASES.iter().enumerate() {
         assert!(rt; calls_so(&rt, rt.alloc(), case, &mut kept)?, "case {k}");
     }
+    Ok(())
+}
+
+#[test]
+fn failing_ends(rt: HostRuntime) -> Result<(), Fail> {
+    let mut kept = Kept::new(rt.alloc());
+    for k in 0..16 {
+        let case = failing_source(k);
+        assert!(rt;
+            calls_so(&rt, rt.alloc(), &case, &mut kept)?,
+            "source at call {k}"
+        );
+    }
+    for k in 0..6 {
+        let case = failing_sink(k);
+        assert!(rt;
+            calls_so(&rt, rt.alloc(), &case, &mut kept)?,
+            "sink at call {k}"
+        );
+    }
+    // A call behind the end of the report is not made.
+    let case = Case {
+        sink: (4, &CALLS[6..7]),
+        ..RUN
+    };
+    assert!(rt; calls_so(&rt, rt.alloc(), &case, &mut kept)?);
+    Ok(())
+}
+
+/// How many of these events are announcements.
+fn announcements(events: &[Event]) -> usize {
+    events
+        .iter()
+        .filter(|event| **event == Event::Announce)
+        .count()
+}
+
+#[test]
+fn idle_again_and_again(rt: HostRuntime) -> Result<(), Fail> {
+    let mut kept = Kept::new(rt.alloc());
+    let case = Case {
+        input: IDLES,
+        ..RUN
+    };
+    let (status, _sink) = call(&rt, rt.alloc(), &case, &mut kept)?;
+    assert!(rt; status == Status::Spent && announcements(kept.history().events()) == 33);
     Ok(())
 }

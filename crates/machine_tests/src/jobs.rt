@@ -94,3 +94,13 @@ pub(crate) const SENDERS: &[u8] = b"tinsel 1\nshape 1 1 1 1 1 2\nasm all\n\
     csrrw x0, Send, x0\ncsrrw x0, WaitUntil, a1\ncsrrw x0, Send, x0\ncsrrw x0, Kill, x0\n\
     take: li a1, 2\ncsrrw x0, WaitUntil, a1\ncsrrs a1, Recv, x0\ncsrrw x0, Free, a1\n\
     csrrw x0, Idle, x0\nend\n";
+
+/// Thread 0 sends to the thread of the other tile, which sends back twice. Each is idle between its letters, votes for the end, and
+/// ends with the announced value.
+pub(crate) const BACK: &[u8] = b"tinsel 1\nshape 1 1 2 1 1 1\nasm all\n\
+    csrrs a0, HartId, x0\nli a1, 1\nbnez a0, other\nli a2, 64\n\
+    csrrw x0, SendDest, a2\ncsrrw x0, Send, x0\n\
+    rest: csrrw a3, Idle, a1\nbnez a3, quit\ncsrrs a4, Recv, x0\n\
+    csrrw x0, Free, a4\nj rest\nquit: csrrw x0, Kill, a3\n\
+    other: csrrw a3, Idle, a1\ncsrrs a4, Recv, x0\ncsrrw x0, Free, a4\n\
+    csrrw x0, Send, x0\ncsrrw x0, WaitUntil, a1\ncsrrw x0, Send, x0\nj rest\nend\n";
