@@ -14,9 +14,9 @@ use tn_detect::facts::{Noted, PartView};
 use tn_detect::phase::Phase;
 use tn_link::link::Link;
 use tn_node::facts::PartFacts;
+use tn_part::part::Part;
 use tn_rest::facts::Facts;
 use tn_rest::machine::Machine;
-use tn_world::part::Part;
 use tn_world::world::World;
 
 /// Whether the detector's invariant holds of a machine.
