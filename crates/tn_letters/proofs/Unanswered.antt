@@ -4,8 +4,13 @@ use Rattle.std.proofs.lemmas.Bool.{cond_both}
 use Rattle.rv_isa.specs.declared.instr.Instr.{Instr}
 use Rattle.tn_base.specs.Message.{has_dest}
 use Rattle.tn_base.specs.declared.message.Dest.{Dest}
+use Rattle.tn_base.specs.declared.message.Dest.TheVariants as dest
 use Rattle.tn_base.specs.declared.effect.Effect.{Effect}
 use Rattle.tn_base.specs.declared.effect.Effect.TheVariants as effect
+use Rattle.polite_switch.specs.SwitchModel.{SwitchModel}
+use Rattle.polite_switch.specs.Table.{Dispatched, dispatched}
+use Rattle.tn_thread.specs.declared.command.Command.{Command}
+use Rattle.tn_thread.specs.declared.command.Command.TheVariants as command
 use Rattle.tn_thread.specs.declared.place.Place.{Place}
 use Rattle.tn_thread.specs.declared.place.Place.TheVariants as place
 use Rattle.tn_thread.specs.declared.register.Register.{Register}
@@ -13,10 +18,12 @@ use Rattle.tn_thread.specs.declared.register.Register.TheVariants as register
 use Rattle.tn_thread.specs.declared.state.ThreadState.{ThreadState}
 use Rattle.tn_thread.specs.declared.state.ThreadState.TheVariants as state
 use Rattle.tn_thread.specs.declared.thread.Thread.{Thread}
+use Rattle.tn_thread.specs.Command.{commanded, given_up, handed, sent_by, sent_off}
+use Rattle.tn_thread.specs.Dispatch.{command_of, view_of}
 use Rattle.tn_thread.specs.Registers.{is_open, may_write, register_of}
 use Rattle.tn_thread.specs.Sight.{Sight}
 use Rattle.tn_thread.specs.Step.{Stepped, dest_of, freed, is_received, loaded_from, loaded_message, place_of, read_by, read_row, received, sent, sent_to, slot_at, slot_size, stepped, stored_to, turned_by, write_by, write_row}
-use Rattle.tn_tile.specs.Step.{Fetched, fetched_by, next_step}
+use Rattle.tn_tile.specs.Step.{Fetched, due_by, fetched_by, next_step, step_by}
 
 -- a thread in this state has no answer
 abbrev pub HasNone : ThreadState → Type 0
@@ -120,5 +127,48 @@ turned_none (state.Answered value) e seen t is = tt
 turned_none (state.Dead value) e seen t is = subst HasNone (sym is) tt
 turned_none (state.Trapped why) e seen t is = subst HasNone (sym is) tt
 
+-- A dispatch.
+
+handed_none : (first : Option ℕ) (t : Thread) → HasNone t.state → LeavesNone (handed first t)
+handed_none None t none = tt
+handed_none (Some slot) t none = none
+
+sent_off_none : (to : Dest) (seen : Sight) (t : Thread) → HasNone t.state → LeavesNone (sent_off to seen t)
+sent_off_none to seen t none = cond_both seen.can_send _ _ (λ s. LeavesNone s) (λ e. none) (λ e. tt)
+
+sent_by_none : (key : Option ℕ) (seen : Sight) (t : Thread) → HasNone t.state → LeavesNone (sent_by key seen t)
+sent_by_none None seen t none = none
+sent_by_none (Some key) seen t none = sent_off_none (dest.Key key) seen t none
+
+given_up_none : (slot : ℕ) (seen : Sight) (t : Thread) → HasNone t.state → LeavesNone (given_up slot seen t)
+given_up_none slot seen t none = cond_both (is_some (seen.held slot)) _ _ (λ s. LeavesNone s) (λ e. none) (λ e. tt)
+
+command_none : (c : Command) (seen : Sight) (t : Thread) → HasNone t.state → LeavesNone (commanded c seen t)
+command_none (command.Enter entry regs) seen t none = none
+command_none command.Recv seen t none = handed_none seen.first t none
+command_none (command.KeySend key) seen t none = sent_by_none key seen t none
+command_none command.HostSend seen t none = sent_off_none dest.Host seen t none
+command_none (command.Free slot) seen t none = given_up_none slot seen t none
+command_none (command.Wait waits) seen t none = tt
+command_none (command.Idle vote) seen t none = tt
+command_none command.Kill seen t none = tt
+command_none (command.Trap why) seen t none = tt
+
+-- a thread at which a dispatch is due runs
+due_none : (s : ThreadState) (code : List (Option Instr)) (t : Thread) (m : SwitchModel) → Some m ≡ due_by s code t → HasNone s
+due_none state.Run code t m e = tt
+due_none (state.Wait waits) code t m e = tt
+due_none (state.Idle vote) code t m e = tt
+due_none (state.Answered value) code t m e = cc e
+due_none (state.Dead value) code t m e = tt
+due_none (state.Trapped why) code t m e = tt
+
+step_none : (due : Option SwitchModel) (code : List (Option Instr)) (seen : Sight) (t : Thread) → due ≡ due_by t.state code t → LeavesNone (step_by due code seen t)
+step_none None code seen t e = let f : Fetched = fetched_by t.state code t in turned_none f.thread.state f.effect seen f.thread refl
+step_none (Some s) code seen t e =
+    let d : Dispatched = dispatched (view_of seen t) s in
+    let now : Thread = record t { switch = Some d.switch } in
+    command_none (command_of d.action now) seen now (due_none t.state code t s e)
+
 pub next_none : (code : List (Option Instr)) (seen : Sight) (t : Thread) → HasNone (next_step code seen t).thread.state
-next_none code seen t = let f : Fetched = fetched_by t.state code t in turned_none f.thread.state f.effect seen f.thread refl
+next_none code seen t = step_none (due_by t.state code t) code seen t refl
