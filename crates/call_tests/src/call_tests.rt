@@ -1,5 +1,7 @@
 //! Both top calls over sources and sinks that move few bytes at a time and fail: each status with what was written and kept.
 
+ghost use Rattle.std.specs.Prelude.{◌<◌};
+
 use std::alloc::Global;
 use std::sync::Wait;
 use std::test::Fail;

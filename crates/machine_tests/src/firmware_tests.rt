@@ -422,8 +422,15 @@ fn one_device(alloc: Global) -> Result<Switch, AllocError> {
     Switch::of(alloc, devices, Vec::new(alloc))
 }
 
-/// What the first dispatch of a thread has made: what it asked, the thread's address, and ra, sp and a0 to a4.
-fn dispatched(alloc: Global, switch: Switch, view: &Seen) -> Result<(Asks, u32, [u32; 7]), Fail> {
+/// Whether the first dispatch of a thread asks this, and leaves the thread at this address with these values in ra, sp and a0 to a4.
+fn dispatches(
+    alloc: Global,
+    switch: Switch,
+    view: &Seen,
+    asks: &Asks,
+    pc: u32,
+    wanted: &[u32; 7],
+) -> Result<bool, Fail> {
     let shape = Shape::of(TWO)?;
     let _numbers = shape.numbers();
     let mut thread = Thread::start(alloc, &shape, ThreadId(1), &[], Some(1))?;
@@ -440,20 +447,49 @@ fn dispatched(alloc: Global, switch: Switch, view: &Seen) -> Result<(Asks, u32, 
         regs.get(13),
         regs.get(14),
     ];
-    Ok((asked(&op), thread.pc(), seen))
+    Ok(asked(&op) == *asks && thread.pc() == pc && seen == *wanted)
 }
 
-/// A dispatch enters the handler init of a device, with its registers. Without a device the thread is idle, or it traps at a letter
-/// whose key has no in-edge.
+/// The handler init of a device is entered, with its registers.
+fn enters_init(alloc: Global) -> Result<bool, Fail> {
+    let switch = one_device(alloc)?;
+    let regs = [FIRMWARE, 256, 64, 0, 0, 9, 0];
+    dispatches(alloc, switch, &tile(true, None)?, &Asks::Nothing, 4, &regs)
+}
+
+/// Without a device the thread is idle, and votes for the end.
+fn idles(alloc: Global) -> Result<bool, Fail> {
+    let switch = no_device(alloc)?;
+    dispatches(
+        alloc,
+        switch,
+        &tile(true, None)?,
+        &Asks::Idle(true),
+        FIRMWARE,
+        &[0; 7],
+    )
+}
+
+/// A letter whose key has no in-edge is a trap.
+fn traps(alloc: Global) -> Result<bool, Fail> {
+    let switch = no_device(alloc)?;
+    let trap = Asks::Trap(Trap::BadLocalKey);
+    dispatches(
+        alloc,
+        switch,
+        &tile(true, Some(3))?,
+        &trap,
+        FIRMWARE,
+        &[0; 7],
+    )
+}
+
+/// A dispatch enters the handler init of a device. Without a device the thread is idle, or it traps at a letter whose key has no
+/// in-edge.
 #[test]
 fn first_dispatches(rt: HostRuntime) -> Result<(), Fail> {
-    let alloc = rt.alloc();
-    let quiet = tile(true, None)?;
-    let init = (Asks::Nothing, 4, [FIRMWARE, 256, 64, 0, 0, 9, 0]);
-    assert!(rt; dispatched(alloc, one_device(alloc)?, &quiet)? == init);
-    let idle = (Asks::Idle(true), FIRMWARE, [0; 7]);
-    assert!(rt; dispatched(alloc, no_device(alloc)?, &quiet)? == idle);
-    let stray = (Asks::Trap(Trap::BadLocalKey), FIRMWARE, [0; 7]);
-    assert!(rt; dispatched(alloc, no_device(alloc)?, &tile(true, Some(3))?)? == stray);
+    assert!(rt; enters_init(rt.alloc())?);
+    assert!(rt; idles(rt.alloc())?);
+    assert!(rt; traps(rt.alloc())?);
     Ok(())
 }
