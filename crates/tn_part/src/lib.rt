@@ -3,7 +3,7 @@
 //! What an event makes of a part stands in `tn_rows`. Read `part` first, then `links`, then `stamped`.
 #![tactic(auto)]
 
-mod detector;
+pub mod detector;
 pub mod doing;
 mod fits;
 mod host;
