@@ -1,7 +1,8 @@
 #!/usr/bin/env bash
 # Makes the calls of examples/cases.txt and those of tools/made_jobs.py, and compares what each call prints, its exit status and its
 # line on standard error with the case's line. Runs ./tinsel, or the program that is given as a word. Fails if a call differs. A case
-# that needs what this machine does not have is skipped. Then tools/run_programs.sh runs the programs in C.
+# that needs what this machine does not have is skipped. Then tools/check_traces.py checks the examples' traces, and
+# tools/run_programs.sh runs the programs in C.
 set -u
 top=$(cd "$(dirname "${BASH_SOURCE[0]}")/.." && pwd)
 program=$(realpath "${1:-$top/tinsel}")
@@ -64,4 +65,5 @@ for job in *.job; do
   grep -q "| $job |" cases.txt || { echo "$job is in no case"; failed=$((failed + 1)); }
 done
 echo "examples: $passed passed, $failed failed, $skipped skipped"
+"$top/tools/check_traces.py" "$program" || failed=$((failed + 1))
 "$top/tools/run_programs.sh" "$program" && [ "$failed" = 0 ] && [ "$passed" != 0 ]

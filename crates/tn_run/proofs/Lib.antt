@@ -1,4 +1,5 @@
 pub mod Apart
+pub mod Behind
 pub mod Blocks
 pub mod Ending
 pub mod Exits

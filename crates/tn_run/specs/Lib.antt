@@ -1,3 +1,4 @@
+pub mod Checked
 pub mod Exits
 pub mod Kept
 pub mod Machine

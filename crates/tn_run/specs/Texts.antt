@@ -14,6 +14,8 @@ use Rattle.tn_words.specs.declared.command.Command.TheVariants as command
 use Rattle.tn_words.specs.Forms.{form_of}
 use Rattle.asm_text.specs.declared.fault.AsmKind.{AsmKind}
 use Rattle.tn_text.specs.declared.stop.Fault.{Fault}
+use Rattle.tn_text.specs.declared.stop.Stop.{Stop}
+use Rattle.tn_text.specs.declared.stop.Stop.TheVariants as stops
 use Rattle.asm_build.specs.declared.image.Image.{Image}
 use Rattle.asm_build.specs.Shown.{shown}
 use Rattle.job_faults.specs.declared.fault.FaultName.TheVariants as fault
@@ -26,7 +28,8 @@ use Rattle.job_faults.specs.Order.{mapped}
 use Rattle.job_faults.specs.Names.{fault_of_asm, job_said}
 use Rattle.map_text.specs.Text.{map_text}
 use Rattle.tn_run.specs.declared.texts.TextCommand.{TextCommand}
-use Rattle.tn_run.specs.declared.texts.TextCommand.TheVariants.{Asm, Map, Show}
+use Rattle.tn_run.specs.declared.texts.TextCommand.TheVariants.{Asm, Check, Map, Show}
+use Rattle.tn_run.specs.Checked.{check_answer}
 use Rattle.tn_run.specs.Refusal.{refusal_text}
 
 -- The commands.
@@ -36,6 +39,7 @@ abbrev pub text_in : Command → Option TextCommand
 text_in command.Asm = Some Asm
 text_in command.Show = Some Show
 text_in command.Map = Some Map
+text_in command.Check = Some Check
 text_in other = None
 
 -- the command of words that are a form of `plain_top`
@@ -93,19 +97,22 @@ map_of (Err found) = Err found
 
 -- What a command answers.
 
--- a line for each command: what it makes of an input, or the first line at fault
-abbrev pub made_by : TextCommand → List ℕ → Result (List ℕ) LoadFault
-made_by Asm input = asm_by (assembled 1 input)
-made_by Show input = shown_lines 1 (lines_of input)
-made_by Map input = map_of (job_said (lines_of input))
-
 abbrev pub answer_by : Result (List ℕ) LoadFault → Status × List ℕ
 answer_by (Ok text) = (Done, text)
 answer_by (Err found) = (Refused, refusal_text found)
 
--- the status and the text are the command's answer to the input
+-- a line for each command: the status and the text are its answer to the input
 abbrev pub text_answer : TextCommand → List ℕ → Unit {0} → Status → List ℕ → Type 0
-text_answer command input kept status text = answer_by (made_by command input) ≡ (status, text)
+text_answer Asm input kept status text = answer_by (asm_by (assembled 1 input)) ≡ (status, text)
+text_answer Show input kept status text = answer_by (shown_lines 1 (lines_of input)) ≡ (status, text)
+text_answer Map input kept status text = answer_by (map_of (job_said (lines_of input))) ≡ (status, text)
+text_answer Check input kept status text = check_answer input status text
+
+-- the answer of a command that made this text, or was refused
+abbrev pub AnswersMade : Result (Unit {0}) (Stop LoadFault) → List ℕ → Status → List ℕ → Type 0
+AnswersMade (Ok done) made status text = answer_by (Ok made) ≡ (status, text)
+AnswersMade (Err (stops.Fault fault)) made status text = answer_by (Err fault) ≡ (status, text)
+AnswersMade (Err stops.Memory) made status text = ⊥
 
 -- nothing is kept of a call, and nothing is said of it
 abbrev pub Anything : Unit {0} → Type 0

@@ -6,6 +6,7 @@
 //! Read `top::serve` first.
 #![tactic(auto)]
 
+mod checked;
 pub mod history;
 pub mod kept;
 pub mod laws;

@@ -45,7 +45,7 @@ pub enum MachineCommand {
 pub(crate) struct MachineService;
 
 /// The machine of an input, at its start.
-fn load_input(alloc: Global, input: &[u8]) -> Result<World<PlainLink>, LoadStop>
+pub(crate) fn load_input(alloc: Global, input: &[u8]) -> Result<World<PlainLink>, LoadStop>
     requires { length input.now ≤ 16777216 }
     ensures machine { Gives result (machine_of input.now) }
     ensures start { IfOk result IsStart }

@@ -5,9 +5,13 @@ ghost use Rattle.job_text.specs.Numbered.{AreNumbered};
 ghost use Rattle.job_text.specs.WellFormed.{IsWellFormed};
 ghost use Rattle.tn_call.specs.Number.{tells};
 ghost use Rattle.tn_text.specs.Gives.{Becomes};
-ghost use Rattle.tn_run.specs.Texts.{Anything, made_by, map_by, onto, reads_all, shown_line, shown_text, text_answer, text_in};
+ghost use Rattle.tn_run.specs.Texts.{AnswersMade, Anything, asm_by, map_by, map_of, onto, reads_all, shown_line, shown_lines, shown_text, text_answer, text_in};
+ghost use Rattle.asm_build.specs.Text.{assembled};
+ghost use Rattle.job_faults.specs.Names.{job_said};
+ghost use Rattle.tn_text.specs.Lines.{lines_of};
 ghost use Rattle.tn_run.specs.declared.texts.TextCommand.{TextCommand};
 
+use crate::checked::answer_check;
 use crate::refusal::refused;
 use asm_build::assemble::assemble_text;
 use asm_build::show::show;
@@ -36,6 +40,8 @@ pub enum TextCommand {
     Show,
     /// From a job with a graph to the places of its vertices and the boards' tables.
     Map,
+    /// Whether the events behind a job are a run of its machine.
+    Check,
 }
 
 /// What serves the commands on texts.
@@ -44,7 +50,7 @@ pub(crate) struct TextService;
 /// Appends the words of a text of assembly.
 fn push_assembled(alloc: Global, text: &mut Vec<u8>, input: &[u8]) -> Result<(), LoadStop>
     requires { length input.now ≤ 16777216 }
-    ensures { Becomes result text.new.items (onto text.old.items (made_by TextCommand.Asm input.now)) }
+    ensures { Becomes result text.new.items (onto text.old.items (asm_by (assembled 1 input.now))) }
 {
     law_line_count(input);
     match assemble_text(alloc, input, 1) {
@@ -84,7 +90,7 @@ fn push_line(alloc: Global, text: &mut Vec<u8>, number: u32, line: &[u8]) -> Res
 /// Appends the canonical lines of the words of a text.
 fn push_lines(alloc: Global, text: &mut Vec<u8>, input: &[u8]) -> Result<(), LoadStop>
     requires { length input.now ≤ 16777216 }
-    ensures { Becomes result text.new.items (onto text.old.items (made_by TextCommand.Show input.now)) }
+    ensures { Becomes result text.new.items (onto text.old.items (shown_lines 1 (lines_of input.now))) }
 {
     law_line_count(input);
     let mut number = 1;
@@ -116,27 +122,64 @@ fn push_mapped(alloc: Global, text: &mut Vec<u8>, job: &Job) -> Result<(), LoadS
 /// Appends the places and tables of the graph of the job that a text says.
 fn push_map(alloc: Global, text: &mut Vec<u8>, input: &[u8]) -> Result<(), LoadStop>
     requires { length input.now ≤ 16777216 }
-    ensures { Becomes result text.new.items (onto text.old.items (made_by TextCommand.Map input.now)) }
+    ensures { Becomes result text.new.items (onto text.old.items (map_of (job_said (lines_of input.now)))) }
 {
     law_line_count(input);
     let job = job_said(alloc, input)?;
     push_mapped(alloc, text, &job)
 }
 
-fn push_made(
+/// The answer of a command that made this text, or was refused.
+fn answer_made(
     alloc: Global,
-    text: &mut Vec<u8>,
-    command: TextCommand,
-    input: &[u8],
-) -> Result<(), LoadStop>
-    requires { length input.now ≤ 16777216 }
-    ensures { Becomes result text.new.items (onto text.old.items (made_by command input.now)) }
+    text: Vec<u8>,
+    made: Result<(), LoadStop>,
+) -> Result<Answer<()>, AllocError>
+    ensures made { IfOk result (λ a. AnswersMade made text.items a.status a.text.items) }
+    ensures tells { IfOk result (λ a. tells a.status ≡ true) }
 {
-    match command {
-        TextCommand::Asm => push_assembled(alloc, text, input),
-        TextCommand::Show => push_lines(alloc, text, input),
-        TextCommand::Map => push_map(alloc, text, input),
+    match made {
+        Ok(()) => Ok(Answer {
+            status: Status::Done,
+            text,
+            kept: (),
+        }),
+        Err(LoadStop::Memory) => Err(AllocError),
+        Err(LoadStop::Fault(fault)) => refused(alloc, fault, ()),
     }
+}
+
+/// The answer to assembly.
+fn answer_asm(alloc: Global, input: &[u8]) -> Result<Answer<()>, AllocError>
+    requires { length input.now ≤ 16777216 }
+    ensures answers { IfOk result (λ a. text_answer TextCommand.Asm input.now a.kept a.status a.text.items) }
+    ensures tells { IfOk result (λ a. tells a.status ≡ true) }
+{
+    let mut text = Vec::new(alloc);
+    let made = push_assembled(alloc, &mut text, input);
+    answer_made(alloc, text, made)
+}
+
+/// The answer to words.
+fn answer_show(alloc: Global, input: &[u8]) -> Result<Answer<()>, AllocError>
+    requires { length input.now ≤ 16777216 }
+    ensures answers { IfOk result (λ a. text_answer TextCommand.Show input.now a.kept a.status a.text.items) }
+    ensures tells { IfOk result (λ a. tells a.status ≡ true) }
+{
+    let mut text = Vec::new(alloc);
+    let made = push_lines(alloc, &mut text, input);
+    answer_made(alloc, text, made)
+}
+
+/// The answer to a job with a graph.
+fn answer_map(alloc: Global, input: &[u8]) -> Result<Answer<()>, AllocError>
+    requires { length input.now ≤ 16777216 }
+    ensures answers { IfOk result (λ a. text_answer TextCommand.Map input.now a.kept a.status a.text.items) }
+    ensures tells { IfOk result (λ a. tells a.status ≡ true) }
+{
+    let mut text = Vec::new(alloc);
+    let made = push_map(alloc, &mut text, input);
+    answer_made(alloc, text, made)
 }
 
 /// The answer to a text.
@@ -145,15 +188,11 @@ fn answer_text(alloc: Global, command: TextCommand, input: &[u8]) -> Result<Answ
     ensures answers { IfOk result (λ a. text_answer command input.now a.kept a.status a.text.items) }
     ensures tells { IfOk result (λ a. tells a.status ≡ true) }
 {
-    let mut text = Vec::new(alloc);
-    match push_made(alloc, &mut text, command, input) {
-        Ok(()) => Ok(Answer {
-            status: Status::Done,
-            text,
-            kept: (),
-        }),
-        Err(LoadStop::Memory) => Err(AllocError),
-        Err(LoadStop::Fault(fault)) => refused(alloc, fault, ()),
+    match command {
+        TextCommand::Asm => answer_asm(alloc, input),
+        TextCommand::Show => answer_show(alloc, input),
+        TextCommand::Map => answer_map(alloc, input),
+        TextCommand::Check => answer_check(alloc, input),
     }
 }
 
@@ -175,9 +214,9 @@ impl Service for TextService {
             Command::Asm => Some(TextCommand::Asm),
             Command::Show => Some(TextCommand::Show),
             Command::Map => Some(TextCommand::Map),
+            Command::Check => Some(TextCommand::Check),
             Command::Run { .. }
             | Command::Gen { .. }
-            | Command::Check
             | Command::Follow { .. }
             | Command::Bsp
             | Command::Wire { .. } => None,
