@@ -40,6 +40,15 @@ abbrev pub DoesTurn : Turned → ThreadId → StampedView → StampedView → Ty
 DoesTurn (turned.Moved n) t old new = Grown old (single_entry old.entries (event.Turn t n)) new × ((m : ℕ) → n < m → after (event.Turn t m) crossing.None old.present ≡ None)
 DoesTurn turned.Nothing t old new = (new ≡ old) × ((m : ℕ) → after (event.Turn t m) crossing.None old.present ≡ None)
 
+-- the same of an event of a machine; nothing happens if the machine has no such part
+abbrev pub DoesOneAt : Option ℕ → Did → Event → StampedView → StampedView → Type 0
+DoesOneAt None r e old new = (r ≡ did.Nothing) × (new ≡ old)
+DoesOneAt (Some p) r e old new = DoesOne (moved r) e old new
+
+abbrev pub DoesTurnAt : Option ℕ → Turned → ThreadId → StampedView → StampedView → Type 0
+DoesTurnAt None r t old new = (r ≡ turned.Nothing) × (new ≡ old)
+DoesTurnAt (Some p) r t old new = DoesTurn r t old new
+
 -- the same entry in both
 pub record BothGrown (e : Event) (low high low' high' : StampedView) : Type 0 where
   pub crossing : Crossing

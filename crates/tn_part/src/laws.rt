@@ -2,10 +2,12 @@
 
 ghost use Rattle.std.specs.Prelude.{List};
 ghost use Rattle.tn_base.specs.declared.event.Event.{Event};
+ghost use Rattle.tn_part.specs.Placed.{ComeBack};
 ghost use Rattle.tn_rows.specs.Runs.{Walk};
 ghost use Rattle.tn_rows.specs.Stamped.{AreJournals, journals_of, machine, presents_of, starts_of};
 ghost use Rattle.tn_stamp.specs.Merging.{IsMerge};
 
+use crate::placed::Placed;
 use crate::stamped::Stamped;
 use tn_base::laws::law_links;
 use tn_base::shape::Shape;
@@ -19,5 +21,14 @@ pub fn law_merge<L: Link>(shape: &Shape, parts: &[Stamped<L>])
     law_links(shape);
     for part in parts {
         let _journal = part.journal();
+    }
+}
+
+/// If placed parts began as all parts of a machine, and their journals agree on every pair, the journals are those of the machine.
+pub fn law_placed<L: Link>(shape: &Shape, parts: &[Placed<L>])
+    ensures { ComeBack shape.now parts.now }
+{
+    for part in parts {
+        let _stamped = part.stamped();
     }
 }

@@ -18,7 +18,6 @@ use tn_base::ids::ThreadId;
 use tn_base::port::Port;
 use tn_link::link::Link;
 use tn_pages::stock::PageStock;
-use tn_stamp::entry::{Crossing, Entry};
 use tn_stamp::journal::{Journal, append_both};
 use tn_tile::deliver::Did;
 use tn_tile::step::Turned;
@@ -125,11 +124,7 @@ impl<L: Link> Stamped<L> {
         let last = self.present.turn(t, stock);
         match last.turned {
             Turned::Moved(n) => {
-                self.journal.append(Entry {
-                    stamp,
-                    event: Event::Turn(t, n),
-                    crossing: Crossing::None,
-                });
+                self.journal.append_single(Event::Turn(t, n));
                 self.ended_at = noted(self.ended_at, last.ends, stamp);
                 last
             }
@@ -147,11 +142,7 @@ impl<L: Link> Stamped<L> {
         match self.present.one(e) {
             Did::Moved => {
                 let ends = self.present.final_on(&e).is_some();
-                self.journal.append(Entry {
-                    stamp,
-                    event: e,
-                    crossing: Crossing::None,
-                });
+                self.journal.append_single(e);
                 self.ended_at = noted(self.ended_at, ends, stamp);
                 Did::Moved
             }

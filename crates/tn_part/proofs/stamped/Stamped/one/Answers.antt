@@ -6,6 +6,6 @@ use Rattle.tn_part.proofs.stamped.Stamped.one.Goals as goal
 
 pub invariant_of-self : goal.invariant_of-self
 invariant_of-self g c = record {
-  replays = replay_more _ _ _ _ _ _ c.append.ensures.entries c.self.invariant.replays (row_of _ _ _ c.in-Moved.ensures);
-  noted = noted _ _ _ _ _ _ _ _ _ c.append.ensures.entries c.self.invariant.replays (row_of _ _ _ c.in-Moved.ensures) c.self.invariant.noted (c.is_some-ends.ensures ∙ ap (λ (o : Option Outcome). is_some o) c.final_on.ensures) c.noted-self-inside.ensures;
+  replays = replay_more _ _ _ _ _ _ c.append_single.ensures.entries c.self.invariant.replays (row_of _ _ _ c.in-Moved.ensures);
+  noted = noted _ _ _ _ _ _ _ _ _ c.append_single.ensures.entries c.self.invariant.replays (row_of _ _ _ c.in-Moved.ensures) c.self.invariant.noted (c.is_some-ends.ensures ∙ ap (λ (o : Option Outcome). is_some o) c.final_on.ensures) (rw c.last-stamp.ensures at c.noted-self-inside.ensures);
 }
