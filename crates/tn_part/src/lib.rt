@@ -4,7 +4,7 @@
 #![tactic(auto)]
 
 pub mod can;
-mod detector;
+pub mod detector;
 pub mod doing;
 pub mod enabled;
 mod fits;

@@ -23,7 +23,7 @@ pub record Makes (e : Event) (old new : WorldView) : Type 0 where
   pub happens : happened e old ≡ Some new
   pub longest : IsLongest e old
 
--- the machine makes an event, and it is told whether the event ends the run
+-- the machine makes an event and says whether the event ends the run
 pub record Told (e : Event) (last : Bool) (old new : WorldView) : Type 0 where
   pub makes : Makes e old new
   pub ends : last ≡ is_some (final_of e new)
