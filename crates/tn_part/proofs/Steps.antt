@@ -1,13 +1,16 @@
 -- Turns of a number of steps.
-use Rattle.std.proofs.Common.{◌≡◌, ℕ, zero, suc, ◌<◌, ◌≤◌, ◌&&◌, Bool, true, false, cond, None, Some, refl, arith, leb}
+use Rattle.std.proofs.Common.{◌≡◌, ◌∙◌, ℕ, zero, suc, ◌<◌, ◌≤◌, ◌&&◌, Bool, true, false, cond, None, Some, refl, ap, sym, arith, leb}
 use Rattle.std.specs.declared.option.Option.{Option}
 use Rattle.std.proofs.lemmas.Bool.Decides.{nat_tests}
 use Rattle.tn_base.specs.Address.{place_in_tile}
-use Rattle.tn_tile.proofs.Steps.{steps_stop}
+use Rattle.tn_part.specs.Turning.{TileTurnsUpTo}
+use Rattle.tn_tile.proofs.Steps.{steps_none, steps_stop}
 use Rattle.tn_tile.specs.Rows.{can_count, is_here, turn_row}
 use Rattle.tn_tile.specs.Step.{can_step, stepped, steps_of}
 use Rattle.tn_tile.specs.declared.state.TileState.{TileState}
-use Rattle.tn_tile.specs.TileView.{TilePlan}
+use Rattle.tn_tile.specs.TileView.{TilePlan, TileView, now_by, with_now}
+use Rattle.tn_tile.specs.Turns.{StepsUpTo}
+use Rattle.tn_tile.specs.declared.step.Turned.TheVariants as turned
 
 at_least : (n m : ℕ) → n ≤ m → leb n m ≡ true
 at_least n m h = grind (arith, nat_tests)
@@ -62,3 +65,27 @@ no_none false c turn o = refl
 pub row_one : (plan : TilePlan) (a m : ℕ) (s : TileState) → turn_row plan a 1 s ≡ None → turn_row plan a m s ≡ None
 row_one plan a zero s e = no_none (is_here plan a) (can_count s) plan.shape.turn (steps_of plan (place_in_tile plan.shape a) 0 s)
 row_one plan a (suc m) s e = by_can plan a m s (can_step plan.shape.fuel (place_in_tile plan.shape a) s) refl e
+
+-- as many of n steps as the thread can make, and at least one
+pub up_to_some : (a n made : ℕ) (v w : TileView) → is_here v.plan a ≡ true → n ≤ v.plan.shape.turn → can_count v.now ≡ true → StepsUpTo v.plan (place_in_tile v.plan.shape a) n made v.now w.now → w.plan ≡ v.plan → 1 ≤ made → TileTurnsUpTo (turned.Moved made) a n v w
+up_to_some a n made v w here high counts steps plan low =
+    let is : with_now v w.now ≡ w = ap (λ (p : TilePlan). record { plan = p; now = w.now }) (sym plan) in
+    let few : made ≤ v.plan.shape.turn = omega (arith, steps.few, high) in
+    let row : turn_row v.plan a made v.now ≡ Some w.now = turn_done v.plan a made made v.now w.now here low few counts steps.steps refl in (
+      ap (now_by v) row ∙ ap (λ (x : TileView). Some x) is,
+      λ apart.
+          let less : made < n = omega (arith, steps.few, apart) in
+          no_turn v.plan a n made v.now w.now steps.steps less (steps.stops less),
+    )
+
+-- the thread can make no step of n
+pub up_to_none : (a n made : ℕ) (v w : TileView) → StepsUpTo v.plan (place_in_tile v.plan.shape a) n made v.now w.now → w.plan ≡ v.plan → made ≡ 0 → 1 ≤ n → TileTurnsUpTo turned.Nothing a n v w
+up_to_none a n made v w steps plan none low =
+    let less : made < n = omega (arith, none, low) in
+    let stays : Some w.now ≡ Some v.now = sym steps.steps ∙ rw none (steps_none v.plan (place_in_tile v.plan.shape a) v.now) in
+    let now : w.now ≡ v.now = cc stays in
+    (rw (plan, now) refl, no_turn v.plan a n made v.now w.now steps.steps less (steps.stops less))
+
+-- a turn that no machine has: of no step, of too many, of a thread that is not here, or where letters can no longer be counted
+pub up_to_refused : (a n : ℕ) (v : TileView) → turn_row v.plan a n v.now ≡ None → TileTurnsUpTo turned.Nothing a n v v
+up_to_refused a n v none = (refl, none)

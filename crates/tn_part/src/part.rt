@@ -14,7 +14,7 @@ ghost use Rattle.tn_tile.specs.Rows.{deliver_row, is_here, turn_row};
 ghost use Rattle.tn_tile.specs.TileView.{now_by};
 ghost use Rattle.tn_tile.specs.Turns.{StockLasts, TurnIs, moved};
 ghost use Rattle.tn_part.specs.Views.{view_of};
-ghost use Rattle.tn_part.specs.Turning.{TurnsPart, did_turn};
+ghost use Rattle.tn_part.specs.Turning.{TileTurnsUpTo, TurnsPart, TurnsUpTo, did_turn};
 ghost use Rattle.tn_rows.specs.Roles.{offers};
 
 use std::alloc::AllocError;
@@ -242,6 +242,18 @@ impl<L: Link> Part<L> {
         }
     }
 
+    /// A turn of so many steps with pages of a full stock. If the thread can make only fewer steps, it makes these.
+    pub fn turn_up_to(&mut self, t: ThreadId, n: u32, stock: &mut PageStock) -> Turned
+        requires { 64 ≤ stock.old }
+        ensures { TurnsUpTo result t n self.old self.new }
+    {
+        match &mut self.contents {
+            Contents::Tile(tile) => turn_tile_up_to(tile, t, n, stock),
+            Contents::Router(_) | Contents::Link(_) | Contents::Host(_) | Contents::Detector(_) =>
+                Turned::Nothing,
+        }
+    }
+
     /// Delivers a thread's packet.
     #[inline(always)]
     pub fn deliver(&mut self, t: ThreadId) -> Did
@@ -439,6 +451,21 @@ fn turn_tile(tile: &mut Tile, t: ThreadId, n: u32) -> Result<Did, AllocError>
     }
     *tile = after;
     Ok(Did::Moved)
+}
+
+/// A turn of so many steps of a thread of a tile. If the thread can make only fewer steps, it makes these.
+fn turn_tile_up_to(tile: &mut Tile, t: ThreadId, n: u32, stock: &mut PageStock) -> Turned
+    requires { 64 ≤ stock.old }
+    ensures { TileTurnsUpTo result t.0 n tile.old tile.new }
+{
+    let most = tile.shape().numbers().turn;
+    if !tile.is_here(t) || n == 0 || n > most || !tile.counts() {
+        return Turned::Nothing;
+    }
+    match tile.turn_up_to(t, n, stock) {
+        0 => Turned::Nothing,
+        made => Turned::Moved(made),
+    }
 }
 
 /// The longest turn of a thread of a tile, and whether it ends a run.

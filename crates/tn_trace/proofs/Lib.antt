@@ -1,1 +1,3 @@
+pub mod Parted
 pub mod ReadBack
+pub mod Said

@@ -8,5 +8,6 @@ pub mod host;
 mod keyword;
 pub mod laws;
 mod line;
+pub mod parting;
 pub mod print;
 pub mod read;

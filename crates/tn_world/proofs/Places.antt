@@ -18,8 +18,8 @@ use Rattle.tn_tile.specs.declared.deliver.Did.{Did}
 use Rattle.tn_tile.specs.declared.step.Turned.{Turned}
 use Rattle.tn_tile.specs.declared.step.Turned.TheVariants as turned
 use Rattle.tn_tile.specs.Turns.{moved}
-use Rattle.tn_world.specs.Plays.{Turns}
-use Rattle.tn_part.specs.Turning.{TurnsPart}
+use Rattle.tn_world.specs.Plays.{Turns, TurnsUpTo}
+use Rattle.tn_part.specs.Turning.{TurnsPart, TurnsUpTo as PartTurnsUpTo}
 use Rattle.tn_rows.specs.Ends.{ended_on, final_of}
 use Rattle.tn_rows.specs.Events.{after, happened, with_part, FitsKind, IsWorld}
 use Rattle.tn_rows.specs.Places.{One, at_part, part_of, places}
@@ -75,6 +75,24 @@ turns_world w t p old new turned.Nothing here a d = (
   rw d.0 (back w p old a),
   λ m. at_place w (event.Turn t m) p old (one_place w.shape t p here) a ∙ ap (λ o. option_map (with_part w p) o) (d.1 m),
 )
+
+-- a turn up to a number of steps on a part is one of the machine
+pub up_to_world : (w : WorldView) (t : ThreadId) (n p : ℕ) (old new : PartView) (r : Turned) → part_of w.shape t ≡ Some p → At w p old → PartTurnsUpTo r t n old new → TurnsUpTo r t n w (record w { parts = set w.parts p new })
+up_to_world w t n p old new (turned.Moved made) here a d = (
+  at_place w (event.Turn t made) p old (one_place w.shape t p here) a ∙ ap (λ o. option_map (with_part w p) o) d.0,
+  λ apart. at_place w (event.Turn t n) p old (one_place w.shape t p here) a ∙ ap (λ o. option_map (with_part w p) o) (d.1 apart),
+)
+up_to_world w t n p old new turned.Nothing here a d = (
+  rw d.0 (back w p old a),
+  at_place w (event.Turn t n) p old (one_place w.shape t p here) a ∙ ap (λ o. option_map (with_part w p) o) d.1,
+)
+
+up_to_kept : (w : WorldView) (t : ThreadId) (n p : ℕ) (old new : PartView) (r : Turned) → PartTurnsUpTo r t n old new → FitsKind w.shape (kind_of w.shape p) old → FitsKind w.shape (kind_of w.shape p) new
+up_to_kept w t n p old new (turned.Moved made) d f = kind_stays (event.Turn t made) crossing.None w.shape (kind_of w.shape p) old new d.0 f
+up_to_kept w t n p old new turned.Nothing d f = rw d.0 f
+
+pub up_to_keeps : (w : WorldView) (t : ThreadId) (n p : ℕ) (old new : PartView) (r : Turned) → At w p old → PartTurnsUpTo r t n old new → IsWorld w → IsWorld (record w { parts = set w.parts p new })
+up_to_keeps w t n p old new r a d i = world_keeps w p old new (read w p old a) (up_to_kept w t n p old new r d) i
 
 -- whether a turn ends a run is told by its part
 pub final_turn : (w : WorldView) (t : ThreadId) (p : ℕ) (old new : PartView) → part_of w.shape t ≡ Some p → At w p old → final_of (event.Turn t 1) (record w { parts = set w.parts p new }) ≡ ended_on t new

@@ -1,5 +1,5 @@
 -- What turns, and runs of them, leave.
-use Rattle.std.specs.Prelude.{ℕ, ◌≡◌, ◌≤◌, ◌<◌, Bool, List, length, Option, Some, None, MatchOption, MatchResult, is_some}
+use Rattle.std.specs.Prelude.{ℕ, ◌≡◌, ◌≢◌, ◌≤◌, ◌<◌, Bool, List, length, Option, Some, None, MatchOption, MatchResult, is_some}
 use Rattle.std.specs.declared.alloc.AllocError.{AllocError}
 use Rattle.std.specs.declared.result.Result.{Result}
 use Rattle.tn_base.specs.declared.event.Event.{Event}
@@ -10,6 +10,8 @@ use Rattle.tn_rows.specs.Events.{happened, Rests}
 use Rattle.tn_rows.specs.Runs.{IsLongest, LongTurns, Run}
 use Rattle.tn_rows.specs.WorldView.{WorldView}
 use Rattle.tn_world.specs.declared.play.Made.{Made}
+use Rattle.tn_tile.specs.declared.deliver.Did.{Did}
+use Rattle.tn_tile.specs.declared.deliver.Did.TheVariants as did
 use Rattle.tn_tile.specs.declared.step.Turned.{Turned}
 use Rattle.tn_tile.specs.declared.step.Turned.TheVariants as turned
 
@@ -17,6 +19,16 @@ use Rattle.tn_tile.specs.declared.step.Turned.TheVariants as turned
 abbrev pub Turns : Turned → ThreadId → WorldView → WorldView → Type 0
 Turns (turned.Moved n) t old new = (happened (event.Turn t n) old ≡ Some new) × ((m : ℕ) → n < m → happened (event.Turn t m) old ≡ None)
 Turns turned.Nothing t old new = (new ≡ old) × ((m : ℕ) → happened (event.Turn t m) old ≡ None)
+
+-- a turn of n steps; if the thread cannot make it, a turn of fewer steps or none
+abbrev pub TurnsUpTo : Turned → ThreadId → ℕ → WorldView → WorldView → Type 0
+TurnsUpTo (turned.Moved made) t n old new = (happened (event.Turn t made) old ≡ Some new) × (made ≢ n → happened (event.Turn t n) old ≡ None)
+TurnsUpTo turned.Nothing t n old new = (new ≡ old) × (happened (event.Turn t n) old ≡ None)
+
+-- an event is made, or it is not enabled. Nothing is said of the machine that is left then
+abbrev pub Redone : Did → Option WorldView → WorldView → Type 0
+Redone did.Moved row new = row ≡ Some new
+Redone did.Nothing row new = row ≡ None
 
 -- the machine makes an event; a turn is the longest one
 pub record Makes (e : Event) (old new : WorldView) : Type 0 where

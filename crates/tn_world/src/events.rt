@@ -1,6 +1,6 @@
 //! Events on a machine.
 
-ghost use Rattle.std.specs.Prelude.{◌≡◌, ◌≤◌, ◌&&◌, MatchOption, MatchResult, is_some, option_and_then, option_map, slice_get};
+ghost use Rattle.std.specs.Prelude.{◌≡◌, ◌≤◌, ◌&&◌, IfOk, MatchOption, MatchResult, is_some, option_and_then, option_map, slice_get};
 ghost use Rattle.tn_base.specs.declared.event.Event.TheVariants as event;
 ghost use Rattle.tn_base.specs.Does.{Does};
 ghost use Rattle.tn_rows.specs.Ends.{bad_key_on, ended_on, final_of};
@@ -9,7 +9,7 @@ ghost use Rattle.tn_rows.specs.Listed.{listed};
 ghost use Rattle.tn_rows.specs.Places.{part_of};
 ghost use Rattle.tn_tile.specs.Turns.{StockLasts, moved};
 ghost use Rattle.tn_part.specs.First.{First};
-ghost use Rattle.tn_world.specs.Plays.{Turns};
+ghost use Rattle.tn_world.specs.Plays.{Redone, Turns, TurnsUpTo};
 ghost use Rattle.tn_part.specs.Turning.{did_turn};
 
 use crate::world::World;
@@ -17,13 +17,14 @@ use std::alloc::AllocError;
 use tn_base::event::{Event, Outcome};
 use tn_base::ids::{PartId, ThreadId};
 use tn_link::link::Link;
-use tn_pages::stock::PageStock;
+use tn_pages::stock::{FULL, PageStock};
 use tn_part::can::part_with;
 use tn_part::enabled::first_enabled;
 use tn_part::part::LastTurn;
 use tn_part::place::part_of;
 use tn_part::visit::Visit;
 use tn_tile::deliver::Did;
+use tn_tile::step::Turned;
 
 /// One event, where it is enabled. A turn's steps are made on a copy of its tile, which takes memory, and so does a letter that
 /// the host takes.
@@ -44,6 +45,35 @@ pub fn step<L: Link>(world: &mut World<L>, e: &Event) -> Result<Did, AllocError>
         Event::Announce => Ok(world.announce()),
         Event::Release(p) => Ok(world.visit(Visit::Release, p)),
         Event::Go(p) => Ok(world.visit(Visit::Go, p)),
+    }
+}
+
+/// Makes an event again that a history has, with pages of a stock. If the event is not enabled, the machine may have made fewer steps of
+/// its turn: who calls lets go of it. A turn and a letter for the host may want memory.
+pub fn redo<L: Link>(
+    world: &mut World<L>,
+    e: &Event,
+    stock: &mut PageStock,
+) -> Result<Did, AllocError>
+    ensures { IfOk result (λ did. Redone did (happened e.now world.old) world.new) }
+{
+    match *e {
+        Event::Turn(t, n) => {
+            stock.reserve(FULL)?;
+            Ok(redo_turn(world, t, n, stock))
+        }
+        _ => step(world, e),
+    }
+}
+
+/// A turn of so many steps with pages of a full stock, or fewer steps.
+fn redo_turn<L: Link>(world: &mut World<L>, t: ThreadId, n: u32, stock: &mut PageStock) -> Did
+    requires { 64 ≤ stock.old }
+    ensures { Redone result (happened (event.Turn t n) world.old) world.new }
+{
+    match world.turn_up_to(t, n, stock) {
+        Turned::Moved(made) if made == n => Did::Moved,
+        Turned::Moved(_) | Turned::Nothing => Did::Nothing,
     }
 }
 
@@ -92,6 +122,21 @@ impl<L: Link> World<L> {
             return LastTurn::NOTHING;
         }
         self.parts[at].turn(t, stock)
+    }
+
+    /// A turn of so many steps with pages of a full stock. If the thread can make only fewer steps, it makes these.
+    fn turn_up_to(&mut self, t: ThreadId, n: u32, stock: &mut PageStock) -> Turned
+        requires { 64 ≤ stock.old }
+        ensures { TurnsUpTo result t n self.old self.new }
+    {
+        let Some(p) = self.part_of(t) else {
+            return Turned::Nothing;
+        };
+        let at = p.0 as usize;
+        if at >= self.parts.len() {
+            return Turned::Nothing;
+        }
+        self.parts[at].turn_up_to(t, n, stock)
     }
 
     /// A turn of so many steps, where the thread can make them.
