@@ -1,8 +1,4 @@
-pub mod Closing
 pub mod Crossings
-pub mod Entries
-pub mod Growing
-pub mod Joined
 pub mod Listed
 pub mod Rests
 pub mod Sites

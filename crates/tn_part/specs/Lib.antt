@@ -1,8 +1,6 @@
-pub mod Doing
 pub mod First
 pub mod Joint
 pub mod Meeting
-pub mod Placed
 pub mod Sites
 pub mod Turning
 pub mod Views
