@@ -1,0 +1,4 @@
+pub mod Closing
+pub mod Entries
+pub mod Growing
+pub mod Joined
