@@ -1,0 +1,4 @@
+pub mod Net
+pub mod Order
+pub mod Law
+pub mod Numbers

@@ -1,0 +1,17 @@
+//! Laws of order. A law answers nothing: its contract is what it says.
+
+ghost use Rattle.tn_order.specs.Law.{EachChangeKeeps, EarlierIsGone};
+ghost use Rattle.tn_order.specs.Numbers.{EveryWalkCounts};
+
+/// Whatever the ways between places are, if at most one place comes next: each change keeps the order of the letters. If a letter
+/// is handed at the end of the way, each letter of a smaller number was handed or dropped before.
+pub fn law_moves()
+    ensures keep { EachChangeKeeps }
+    ensures gone { EarlierIsGone }
+{}
+
+/// Whatever events happen to a machine from its start, no thread has sent more often than it made steps, and no thread made more
+/// steps than its fuel. So the numbers of a thread's sends do not wrap.
+pub fn law_numbers()
+    ensures { EveryWalkCounts }
+{}
