@@ -47,7 +47,7 @@ pub enough_next : (t : Thread) (r : Stepped) → Counts t r → Enough t → Eno
 enough_next t r (inl c) h = let a = c.0 in let b = c.1 in omega arith
 enough_next t r (inr c) h = let a = c.0 in let b = c.1 in omega arith
 
-abbrev Each : ShapeNumbers → (ℕ → Thread) → Type 0
+abbrev pub Each : ShapeNumbers → (ℕ → Thread) → Type 0
 Each n f = (a : ℕ) → IsTrue (has_thread n a) → Enough (f a)
 
 own_enough : (m : Program) (b : ℕ) (seen : Seen) (s : BagState) → Each m.shape s.threads → MayStep m s b seen → Each m.shape (put s.threads b (own_step m b seen s).thread)
@@ -64,7 +64,7 @@ told_enough value t h = cond_both (is_idle t.state) _ _ (λ (u : Thread). Enough
 same_each : (n : ShapeNumbers) (f g : ℕ → Thread) → g ≡ f → Each n f → Each n g
 same_each n f g e h = subst (Each n) (sym e) h
 
-step_enough : (m : Program) (x : BagStep) (s t : BagState) → Happens m x s t → Each m.shape s.threads → Each m.shape t.threads
+pub step_enough : (m : Program) (x : BagStep) (s t : BagState) → Happens m x s t → Each m.shape s.threads → Each m.shape t.threads
 step_enough m (bag.Private b seen) s t h each =
     same_each m.shape _ t.threads (ap (λ (r : BagState). r.threads) h.2 ∙ ended_threads (own_step m b seen s).op b (with_own_step m b seen s)) (own_enough m b seen s each h.0)
 step_enough m (bag.Send b seen) s t h each = same_each m.shape _ t.threads (sent_threads m b (s.threads b).sends (own_step m b seen s).op (with_own_step m b seen s) t h.1) (own_enough m b seen s each h.0)
@@ -76,7 +76,7 @@ step_enough m (bag.HostSend l) s t h each = same_each m.shape _ t.threads (ap (�
 step_enough m (bag.HostHand l) s t h each = same_each m.shape _ t.threads (ap (λ (r : BagState). r.threads) h.3) each
 step_enough m (bag.Discard l) s t h each = same_each m.shape _ t.threads (ap (λ (r : BagState). r.threads) h.4) each
 
-run_enough : (m : Program) (steps : List BagStep) (start end : BagState) → BagRun m start steps end → Each m.shape start.threads → Each m.shape end.threads
+pub run_enough : (m : Program) (steps : List BagStep) (start end : BagState) → BagRun m start steps end → Each m.shape start.threads → Each m.shape end.threads
 run_enough m [] start end run each = λ a there. subst (λ (t : Thread). Enough t) (run.threads a there) (each a there)
 run_enough m (x ∷ xs) start end run each =
     run_enough m xs run.1 end run.4 (step_enough m x run.0 run.1 run.3 (λ a there. subst (λ (t : Thread). Enough t) (run.2.threads a there) (each a there)))
@@ -132,7 +132,7 @@ event_enough e w new g q h all a there =
     omega arith
 
 -- no thread sent yet
-start_enough : (w : WorldView) → IsStart w → Good w → AllEnough w
+pub start_enough : (w : WorldView) → IsStart w → Good w → AllEnough w
 start_enough w s g a there =
     let t = seat w a g there in
     let so : StartsSo w.shape (TileV t.tile) = subst (StartsSo w.shape) t.on.is (s.parts (part_for w a) t.on.within) in
@@ -164,3 +164,10 @@ every_walk_counts start w history a s walk there =
       sends = walk_enough history start w g q (start_enough start s g) walk a there;
       steps = few_steps w a (walk_good history start w g q walk) there;
     }
+
+-- no event changes the shape
+pub walk_shape : (es : List Event) (w end : WorldView) → Good w → IsQuietWorld w → Walk w es end → end.shape ≡ w.shape
+walk_shape [] w end g q walk = ap (λ (x : WorldView). x.shape) (sym walk)
+walk_shape (e ∷ es) w end g q walk =
+    walk_shape es walk.0 end (event_good e w walk.0 g q walk.1) (event_quiet e w walk.0 g.limits q walk.1) walk.2
+    ∙ ap (λ (m : Program). m.shape) (event_arrives (λ b. []) [] 0 e w walk.0 g q walk.1).program

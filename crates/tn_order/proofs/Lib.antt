@@ -1,3 +1,5 @@
-pub mod Keeps
 pub mod Counted
+pub mod Keeps
 pub mod Numbers
+pub mod Rises
+pub mod Rising

@@ -1,4 +1,5 @@
-pub mod Net
-pub mod Order
+pub mod Acts
 pub mod Law
+pub mod Net
 pub mod Numbers
+pub mod Order

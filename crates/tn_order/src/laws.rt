@@ -1,5 +1,6 @@
 //! Laws of order. A law answers nothing: its contract is what it says.
 
+ghost use Rattle.tn_order.specs.Acts.{EveryRunNumbersRise};
 ghost use Rattle.tn_order.specs.Law.{EachChangeKeeps, EarlierIsGone};
 ghost use Rattle.tn_order.specs.Numbers.{EveryWalkCounts};
 
@@ -14,4 +15,10 @@ pub fn law_moves()
 /// steps than its fuel. So the numbers of a thread's sends do not wrap.
 pub fn law_numbers()
     ensures { EveryWalkCounts }
+{}
+
+/// In each run of a machine from its start, each send has a greater number than each earlier send of its origin, be the origin a thread
+/// or the host.
+pub fn law_rising()
+    ensures { EveryRunNumbersRise }
 {}
