@@ -3,3 +3,4 @@ pub mod Keeps
 pub mod Numbers
 pub mod Rises
 pub mod Rising
+pub mod SpotNet

@@ -3,3 +3,4 @@ pub mod Law
 pub mod Net
 pub mod Numbers
 pub mod Order
+pub mod Spots

@@ -1,8 +1,14 @@
 //! Laws of order. A law answers nothing: its contract is what it says.
 
+ghost use Rattle.std.specs.Prelude.{ℕ};
+ghost use Rattle.tn_base.specs.declared.message.Dest.{Dest};
 ghost use Rattle.tn_order.specs.Acts.{EveryRunNumbersRise};
 ghost use Rattle.tn_order.specs.Law.{EachChangeKeeps, EarlierIsGone};
+ghost use Rattle.tn_order.specs.Net.{IsNet};
 ghost use Rattle.tn_order.specs.Numbers.{EveryWalkCounts};
+ghost use Rattle.tn_order.specs.Spots.{way_of};
+
+use tn_base::shape::Shape;
 
 /// Whatever the ways between places are, if at most one place comes next: each change keeps the order of the letters. If a letter
 /// is handed at the end of the way, each letter of a smaller number was handed or dropped before.
@@ -16,6 +22,13 @@ pub fn law_moves()
 pub fn law_numbers()
     ensures { EveryWalkCounts }
 {}
+
+/// From each spot of a machine a packet for one thread or for the host goes to at most one spot, and to another spot.
+pub fn law_spots(shape: &Shape)
+    ensures { (s : ℕ) (goal : Dest) → IsNet (way_of shape.now s goal) }
+{
+    let _numbers = shape.numbers();
+}
 
 /// In each run of a machine from its start, each send has a greater number than each earlier send of its origin, be the origin a thread
 /// or the host.
