@@ -1,6 +1,11 @@
 pub mod Counted
+pub mod Crossing
 pub mod Keeps
 pub mod Numbers
+pub mod PartViews
+pub mod Passing
 pub mod Rises
 pub mod Rising
 pub mod SpotNet
+pub mod Steps
+pub mod Views
