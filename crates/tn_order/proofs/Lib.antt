@@ -6,6 +6,7 @@ pub mod PartViews
 pub mod Passing
 pub mod Rises
 pub mod Rising
+pub mod Routing
 pub mod SpotNet
 pub mod Steps
 pub mod Views

@@ -1,5 +1,5 @@
 use Rattle.tn_order.proofs.SpotNet.{spot_net}
-use Rattle.tn_order.proofs.Crossing.{router_arrives}
+use Rattle.tn_order.proofs.Routing.{route_keeps}
 use Rattle.tn_order.proofs.laws.law_spots.Goals as goal
 
 pub returns : goal.returns
