@@ -1,6 +1,7 @@
 pub mod Counted
 pub mod Crossing
 pub mod Keeps
+pub mod Landing
 pub mod Numbers
 pub mod PartViews
 pub mod Passing
@@ -8,5 +9,7 @@ pub mod Rises
 pub mod Rising
 pub mod Routing
 pub mod SpotNet
+pub mod Stamps
 pub mod Steps
+pub mod Tiles
 pub mod Views

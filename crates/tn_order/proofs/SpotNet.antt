@@ -35,7 +35,7 @@ next_one n goal ways (Works p side) q r a b = a ∙ sym b
 next_one n goal ways (Crosses l) q r a b = behind_one n goal l (kind_of n l) q r a b
 next_one n goal ways Queue q r a b = absurd a
 
-not_pending : (p : ℕ) (way : Port) (k j : ℕ) → onward p way ≡ Pending k j → ⊥
+pub not_pending : (p : ℕ) (way : Port) (k j : ℕ) → onward p way ≡ Pending k j → ⊥
 not_pending p port.East k j e = cc e
 not_pending p port.West k j e = cc e
 not_pending p port.South k j e = cc e
