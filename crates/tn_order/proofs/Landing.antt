@@ -39,18 +39,12 @@ use Rattle.tn_tile.proofs.Steps.{taken}
 use Rattle.tn_letters.proofs.Lift.{GoodTile}
 use Rattle.tn_letters.proofs.Receivers.{router_away, thread_here}
 use Rattle.tn_order.specs.Kept.{IsFor}
+use Rattle.tn_order.specs.Moving.{IsReceiver}
 use Rattle.tn_order.specs.Spots.{Crosses, Item, Pending, Queue, Spot, Waits, Works, item_of, items_of, onward, queue_items, queue_part, slot_item, spot_part, stands_in}
 use Rattle.tn_order.proofs.Crossing.{put_there}
 use Rattle.tn_order.proofs.PartViews.{ButQueue, ports_others, tile_out, tile_queue}
 use Rattle.tn_order.proofs.Stamps.{keeps_others, puts_last, stamps}
 use Rattle.tn_order.proofs.Steps.{Gets, OfOne}
-
--- the receiver is a thread of the machine or the host
-abbrev pub IsReceiver : ShapeNumbers → Dest → Type 0
-IsReceiver n (dest.Thread t) = IsTrue (has_thread n t.0)
-IsReceiver n dest.Host = Unit {0}
-IsReceiver n (dest.Mask tile mask) = ⊥
-IsReceiver n (dest.Key key) = ⊥
 
 -- the receiver ended, if it is a thread: it is not among those of the packet that are alive
 abbrev pub IsLost : TileView → Dest → Dest → Type 0

@@ -2,6 +2,7 @@ pub mod Counted
 pub mod Crossing
 pub mod Keeps
 pub mod Landing
+pub mod Moving
 pub mod Numbers
 pub mod PartViews
 pub mod Passing

@@ -38,11 +38,12 @@ use Rattle.tn_letters.proofs.Lift.{Good, GoodTile, OnPart, good_now, tile_on}
 use Rattle.tn_letters.proofs.Links.{two_parts}
 use Rattle.tn_letters.proofs.Simulate.{Place, sizes}
 use Rattle.tn_order.specs.Kept.{IsFor, Kept}
+use Rattle.tn_order.specs.Moving.{IsReceiver}
 use Rattle.tn_order.specs.Net.{Net, IsNet}
 use Rattle.tn_order.specs.Spots.{Crosses, Item, NextBehind, NextInto, NextSpot, Pending, Queue, Spot, Waits, Works, item_of, items_of, onward, queue_items, spot_part, standing_at, stands_in, way_of}
 use Rattle.tn_order.specs.Views.{Takes}
 use Rattle.tn_order.proofs.Crossing.{crossed}
-use Rattle.tn_order.proofs.Landing.{IsLost, IsReceiver, Landing, Lost, Stands, lands}
+use Rattle.tn_order.proofs.Landing.{IsLost, Landing, Lost, Stands, lands}
 use Rattle.tn_order.proofs.PartViews.{tile_pending}
 use Rattle.tn_order.proofs.Passing.{first_for, part_with, stay}
 use Rattle.tn_order.proofs.SpotNet.{not_pending}

@@ -1,6 +1,7 @@
 pub mod Acts
 pub mod Kept
 pub mod Law
+pub mod Moving
 pub mod Net
 pub mod Numbers
 pub mod Order

@@ -4,6 +4,7 @@ ghost use Rattle.std.specs.Prelude.{ℕ};
 ghost use Rattle.tn_base.specs.declared.message.Dest.{Dest};
 ghost use Rattle.tn_order.specs.Acts.{EveryRunNumbersRise};
 ghost use Rattle.tn_order.specs.Law.{EachChangeKeeps, EarlierIsGone};
+ghost use Rattle.tn_order.specs.Moving.{EachMovingKeeps};
 ghost use Rattle.tn_order.specs.Net.{IsNet};
 ghost use Rattle.tn_order.specs.Numbers.{EveryWalkCounts};
 ghost use Rattle.tn_order.specs.Spots.{way_of};
@@ -34,4 +35,10 @@ pub fn law_spots(shape: &Shape)
 /// or the host.
 pub fn law_rising()
     ensures { EveryRunNumbersRise }
+{}
+
+/// A departure, a Route, an arrival and a delivery of a machine keep the letters of one sender for one receiver in order, whichever
+/// numbers of the sender are meant. At most one letter is dropped, and that letter is meant.
+pub fn law_moving()
+    ensures { EachMovingKeeps }
 {}

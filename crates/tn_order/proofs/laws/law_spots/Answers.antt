@@ -1,6 +1,4 @@
 use Rattle.tn_order.proofs.SpotNet.{spot_net}
-use Rattle.tn_order.proofs.Routing.{route_keeps}
-use Rattle.tn_order.proofs.Tiles.{tile_delivers}
 use Rattle.tn_order.proofs.laws.law_spots.Goals as goal
 
 pub returns : goal.returns
