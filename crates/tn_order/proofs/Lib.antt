@@ -1,3 +1,4 @@
+pub mod Acting
 pub mod Counted
 pub mod Crossing
 pub mod Keeps
@@ -13,4 +14,5 @@ pub mod SpotNet
 pub mod Stamps
 pub mod Steps
 pub mod Tiles
+pub mod Turning
 pub mod Views

@@ -55,7 +55,7 @@ abbrev pub Outcome : ShapeNumbers → Net Spot → Dest → (ℕ → ℕ → Boo
 Outcome n net goal mine f sent gone k lost = Kept n net goal mine f sent gone ⊎ ((mine k.origin k.number ≡ true) × lost × Kept n net goal mine f sent (k.number ∷ gone))
 
 -- no spot of part p changes
-lift_same_on : (goal : Dest) (w : WorldView) (p : ℕ) (a b : PartView) → OnPart w p a → ((r : Spot) → spot_part w.shape goal r ≡ p → stands_in goal b r ≡ stands_in goal a r) → (r : Spot) → standing_at goal (with_part w p b) r ≡ standing_at goal w r
+pub lift_same_on : (goal : Dest) (w : WorldView) (p : ℕ) (a b : PartView) → OnPart w p a → ((r : Spot) → spot_part w.shape goal r ≡ p → stands_in goal b r ≡ stands_in goal a r) → (r : Spot) → standing_at goal (with_part w p b) r ≡ standing_at goal w r
 lift_same_on goal w p a b on same r = elim (cases_eq (spot_part w.shape goal r) p) [
   | inr ne ↦ beside goal w p b r ne
   | inl here ↦ at_part goal w p b r on.within here ∙ (same r here ∙ sym (was_part goal w p a r on.is here))

@@ -1,4 +1,5 @@
 pub mod Acts
+pub mod History
 pub mod Kept
 pub mod Law
 pub mod Moving
