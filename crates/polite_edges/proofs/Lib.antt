@@ -1,0 +1,17 @@
+pub mod Bags
+pub mod Fine
+pub mod Handlers
+pub mod Joining
+pub mod Keeps
+pub mod Late
+pub mod Law
+pub mod Leaving
+pub mod Nodes
+pub mod Numbers
+pub mod Once
+pub mod Rows
+pub mod Scans
+pub mod Shown
+pub mod Stepping
+pub mod Threads
+pub mod Weights

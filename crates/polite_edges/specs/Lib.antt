@@ -1,0 +1,4 @@
+pub mod Deeds
+pub mod Layout
+pub mod Runs
+pub mod VertexLog
