@@ -6,9 +6,11 @@ pub mod Keeps
 pub mod Late
 pub mod Law
 pub mod Leaving
+pub mod Machines
 pub mod Nodes
 pub mod Numbers
 pub mod Once
+pub mod Replaying
 pub mod Rows
 pub mod Scans
 pub mod Shown
