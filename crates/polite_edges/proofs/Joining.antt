@@ -1,10 +1,15 @@
 -- Each step of the bag machine of a graph is an event of nodes.
-use Rattle.std.proofs.Common.{ℕ, zero, suc, ◌+◌, ◌/◌, ◌^◌, ◌<◌, ◌≤◌, ◌≡◌, ◌≢◌, ◌⊎◌, ◌∙◌, cond, Bool, true, false, List, [], ◌∷◌, refl, sym, ap, subst, inl, inr, arith, Option, Some, None}
+use Rattle.std.proofs.Common.{ℕ, zero, suc, ◌+◌, ◌/◌, ◌^◌, ◌<◌, ◌≤◌, ◌≡◌, ◌≢◌, ◌⊎◌, ◌∙◌, cond, Bool, true, false, List, [], ◌∷◌, length, refl, sym, ap, subst, inl, inr, arith, Option, Some, None}
 use Rattle.std.specs.Prelude.{is_some, map, slice_get, unwrap_or}
 use Rattle.std.specs.List.{AllByRecursion, list_all, range_with_len}
 use Rattle.std.proofs.lemmas.Bool.{and_cases, cases_eq, eq-eqb, ne_eqb}
 use Rattle.std.proofs.lemmas.List.Sums.{sum_by-cons}
+use Rattle.std.specs.Option.{ForSome}
 use Rattle.polite_routes.specs.Hops.{arrives}
+use Rattle.polite_switch.specs.declared.course.Call.{Call}
+use Rattle.polite_switch.specs.Device.{device_at, key_at}
+use Rattle.polite_switch.specs.DeviceModel.{DeviceModel}
+use Rattle.polite_switch.specs.Table.{sent_key}
 use Rattle.rv_isa.specs.declared.instr.Instr.{Instr}
 use Rattle.tn_base.specs.declared.message.Letter.{Letter}
 use Rattle.tn_base.specs.declared.op.Op.{Op}
@@ -31,7 +36,7 @@ use Rattle.tn_letters.specs.Letters.{Takes, board_of, host_address}
 use Rattle.tn_letters.specs.Machine.{Allows, BagRun, Happens as Steps, IsAllowed, IsAtRest, IsPrivate, MayStep, addresses, announced, answer, ended_by, freed, handed, own_step, sent_by, sight, with_own_step}
 use Rattle.tn_letters.specs.State.{BagState, Program, Same, put}
 use Rattle.polite_edges.specs.Deeds.{Announced, Deed, Item, added}
-use Rattle.polite_edges.specs.Layout.{AllRouted, Layout}
+use Rattle.polite_edges.specs.Layout.{AllRouted, IsKeyOf, Layout}
 use Rattle.polite_edges.specs.Runs.{FewSteps, IsAwait, deed_at, deeds_after, thread_deed}
 use Rattle.polite_edges.proofs.Bags.{bag_weighs}
 use Rattle.polite_edges.proofs.Fine.{Fine}
@@ -65,7 +70,7 @@ pub record Premises (g : Layout) (code : ℕ → List (Option Instr)) (reach : R
   pub routed : AllRouted g
   pub listed : Listed g.shape
   pub code_ends : (a : ℕ) → Has g a → slice_get (code a) (0xFFFFFFF0 / 4) ≡ None
-  pub reach_is : (a key : ℕ) (bytes : List ℕ) → Has g a → reach (board_of a) key bytes ≡ map (arrives bytes) (g.hops a key)
+  pub reach_is : (a key : ℕ) (bytes : List ℕ) → Has g a → IsKeyOf g a key → reach (board_of a) key bytes ≡ map (arrives bytes) (g.hops a key)
   pub host : g.in_edges host_address ≡ []
 
 -- the nodes are those of the threads, and the host sends nothing
@@ -123,6 +128,16 @@ pub record Beside (m : Program) (a : ℕ) (seen : Seen) (s new : BagState) : Typ
   pub held : (b : ℕ) → b ≢ a → new.held b ≡ s.held b
   pub script : new.script ≡ s.script
 
+-- the key of a pin that a device sent by
+key_of : (g : Layout) (a key : ℕ) (devices : List DeviceModel) (call : Option Call) → ForSome call (λ c. c.device < length devices) → sent_key devices call ≡ Some key → devices ≡ g.devices a → IsKeyOf g a key
+key_of g a key devices None fits e same = absurd cc
+key_of g a key devices (Some call) fits e same = record {
+  device = call.device;
+  pin = call.pin;
+  there = subst (λ (ds : List DeviceModel). call.device < length ds) same (fits call refl);
+  is = subst (λ (ds : List DeviceModel). key_at (device_at ds call.device) call.pin ≡ Some key) same e;
+}
+
 -- a step of one thread
 thread_next : (g : Layout) (code : ℕ → List (Option Instr)) (reach : Reach) (a : ℕ) (seen : Seen) (o : Option Letter) (s new : BagState) (node : ℕ → Node) (deeds : List Deed) → let m = program g code reach in
     Premises g code reach → Inv g (world s.flight node deeds) → Shows g s node → SeenIs seen o → MayStep m s a seen → (new.threads a).steps < 2 ^ 32 → Beside m a seen s new →
@@ -135,7 +150,7 @@ thread_next g code reach a seen o s new node deeds p i sh si may few b asked =
     let steps : (new.threads a).steps ≡ (own_step m a seen s).thread.steps = ap (λ (t : Thread). t.steps) now in
     let counted = fits.steps in
     let l = step_leaves g g.shape reach (code a) a seen o (s.threads a) (s.held a) (new.held a) (node a) s.flight new.flight
-    (record { seen_is = si; hand = (i.fine.nodes a has).hand; reach_is = λ key bytes. p.reach_is a key bytes has; host = p.host; code_ends = p.code_ends a has })
+    (record { seen_is = si; hand = (i.fine.nodes a has).hand; reach_is = λ key bytes e. p.reach_is a key bytes has (key_of g a key (node a).switch.devices (node a).switch.course.call (i.fine.nodes a has).kept.fits.course.call e (i.fine.nodes a has).devices); host = p.host; code_ends = p.code_ends a has })
     (sh.nodes a has) may.runnable (record { firmware = fits.keeps.firmware; steps = fits.steps }) (omega arith) asked in
     let e = make_event g a node l.node s.flight new.flight (thread_deed m a seen s) deeds has l.local in
     record {

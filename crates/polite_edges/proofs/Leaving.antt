@@ -49,7 +49,7 @@ pub record Setting (g : Layout) (n : ShapeNumbers) (reach : Reach) (a : ℕ) (se
   pub home : t.pc ≡ 0xFFFFFFF0
   pub seen_is : SeenIs seen o
   pub hand : HandFits nd.hand nd.switch.course.hand
-  pub reach_is : (key : ℕ) (bytes : List ℕ) → reach (board_of a) key bytes ≡ map (arrives bytes) (g.hops a key)
+  pub reach_is : (key : ℕ) (bytes : List ℕ) → sent_key nd.switch.devices nd.switch.course.call ≡ Some key → reach (board_of a) key bytes ≡ map (arrives bytes) (g.hops a key)
   pub host : g.in_edges host_address ≡ []
   pub few : t.steps + 1 < 2 ^ 32
 
@@ -212,19 +212,19 @@ map_twice : {A B C : Type 0} (f : B → C) (h : A → B) (xs : List A) → map f
 map_twice f h [] = refl
 map_twice f h (x ∷ xs) = ap (λ ys. f (h x) ∷ ys) (map_twice f h xs)
 
-letters_are : (g : Layout) (n : ShapeNumbers) (reach : Reach) (a : ℕ) (seen : Seen) (o : Option Letter) (t : Thread) (held : ℕ → Option Letter) (nd : Node) (key : ℕ) → Setting g n reach a seen o t held nd →
+letters_are : (g : Layout) (n : ShapeNumbers) (reach : Reach) (a : ℕ) (seen : Seen) (o : Option Letter) (t : Thread) (held : ℕ → Option Letter) (nd : Node) (key : ℕ) → Setting g n reach a seen o t held nd → sent_key nd.switch.devices nd.switch.course.call ≡ Some key →
     letters n reach a t.sends (dest.Key key) (message_of t) ≡ node_letters g a nd.sends (message_of t) key
-letters_are g n reach a seen o t held nd key s =
-    ap (map (letter_for a t.sends)) (s.reach_is key (message_of t))
+letters_are g n reach a seen o t held nd key s e =
+    ap (map (letter_for a t.sends)) (s.reach_is key (message_of t) e)
     ∙ (map_twice (letter_for a t.sends) (arrives (message_of t)) (g.hops a key)
     ∙ ap (λ k. node_letters g a k (message_of t) key) (sym s.carries.sends))
 
 -- the message is sent by the key of a pin
-keys_by : (g : Layout) (n : ShapeNumbers) (reach : Reach) (a : ℕ) (seen : Seen) (o : Option Letter) (t : Thread) (held now : ℕ → Option Letter) (nd : Node) (old new : List Letter) (sw : SwitchModel) (key : ℕ) (can : Bool) →
+keys_by : (g : Layout) (n : ShapeNumbers) (reach : Reach) (a : ℕ) (seen : Seen) (o : Option Letter) (t : Thread) (held now : ℕ → Option Letter) (nd : Node) (old new : List Letter) (sw : SwitchModel) (key : ℕ) (can : Bool) → sent_key nd.switch.devices nd.switch.course.call ≡ Some key →
     let r : Dispatched = record { switch = sw; action = action.KeySend (Some key) } in let u : Thread = record (running t) { switch = Some sw } in
     LeavesBy g n reach a seen o t held nd old new r now (cond can (stays (record u { sends = (t.sends + 1) % 2 ^ 32 }) (op.Send (dest.Key key) (message_of t))) (trapped trap.SendBusy u))
-keys_by g n reach a seen o t held now nd old new sw key false s safe is h = traps g a nd now old new trap.SendBusy (record (running t) { switch = Some sw }) s.going h
-keys_by g n reach a seen o t held now nd old new sw key true s safe is h =
+keys_by g n reach a seen o t held now nd old new sw key false at s safe is h = traps g a nd now old new trap.SendBusy (record (running t) { switch = Some sw }) s.going h
+keys_by g n reach a seen o t held now nd old new sw key true at s safe is h =
     let r : Dispatched = record { switch = sw; action = action.KeySend (Some key) } in
     let u : Thread = record (running t) { switch = Some sw } in
     let c = s.carries in
@@ -234,19 +234,19 @@ keys_by g n reach a seen o t held now nd old new sw key true s safe is h =
     }) (λ w.
     let x = h.0 w in
     let y = sum_by-append (brings w g) (letters n reach a t.sends (dest.Key key) (message_of t)) old in
-    let z = ap (λ ls. flying w g ls) (letters_are g n reach a seen o t held nd key s) in
+    let z = ap (λ ls. flying w g ls) (letters_are g n reach a seen o t held nd key s at) in
     omega arith)
 
-key_leaves : (g : Layout) (n : ShapeNumbers) (reach : Reach) (a : ℕ) (seen : Seen) (o : Option Letter) (t : Thread) (held now : ℕ → Option Letter) (nd : Node) (old new : List Letter) (sw : SwitchModel) (key : Option ℕ) →
+key_leaves : (g : Layout) (n : ShapeNumbers) (reach : Reach) (a : ℕ) (seen : Seen) (o : Option Letter) (t : Thread) (held now : ℕ → Option Letter) (nd : Node) (old new : List Letter) (sw : SwitchModel) (key : Option ℕ) → sent_key nd.switch.devices nd.switch.course.call ≡ key →
     let r : Dispatched = record { switch = sw; action = action.KeySend key } in LeavesBy g n reach a seen o t held nd old new r now (does_of r seen held t)
-key_leaves g n reach a seen o t held now nd old new sw None s safe is h =
+key_leaves g n reach a seen o t held now nd old new sw None at s safe is h =
     let r : Dispatched = record { switch = sw; action = action.KeySend None } in
     let c = s.carries in
     made g n reach a seen o t held now nd old new r (does_of r seen held t).thread s safe is (record {
       state = (refl, refl, inl refl);
       carries = record { firmware = c.firmware; switch = refl; sends = c.sends; few = (let f = c.few in omega arith); holds = held_same t held now nd c h.1 };
     }) h.0
-key_leaves g n reach a seen o t held now nd old new sw (Some key) s safe is h = keys_by g n reach a seen o t held now nd old new sw key seen.can_send s safe is h
+key_leaves g n reach a seen o t held now nd old new sw (Some key) at s safe is h = keys_by g n reach a seen o t held now nd old new sw key seen.can_send at s safe is h
 
 no_edges : (key : ℕ) → edges_at [] key ≡ []
 no_edges key = refl
@@ -274,7 +274,7 @@ hosts_by g n reach a seen o t held now nd old new sw true s safe is h =
 
 pub row_leaves : (r : Row) (g : Layout) (n : ShapeNumbers) (reach : Reach) (a : ℕ) (seen : Seen) (o : Option Letter) (t : Thread) (held now : ℕ → Option Letter) (nd : Node) (old new : List Letter) → RowHolds r (view_of (dispatch_at a seen o t) nd) (taken_at (dispatch_at a seen o t) nd) →
     LeavesBy g n reach a seen o t held nd old new (out r (dispatch_at a seen o t) nd) now (does_of (out r (dispatch_at a seen o t) nd) seen held t)
-row_leaves row.KeySend g n reach a seen o t held now nd old new holds s safe is h = key_leaves g n reach a seen o t held now nd old new _ (sent_key nd.switch.devices nd.switch.course.call) s safe is h
+row_leaves row.KeySend g n reach a seen o t held now nd old new holds s safe is h = key_leaves g n reach a seen o t held now nd old new _ (sent_key nd.switch.devices nd.switch.course.call) refl s safe is h
 row_leaves row.HostSend g n reach a seen o t held now nd old new holds s safe is h = hosts_by g n reach a seen o t held now nd old new _ seen.can_send s safe is h
 row_leaves row.HostWait g n reach a seen o t held now nd old new holds s safe is h = waits_on g n reach a seen o t held now nd old new _ 1 s safe is h
 row_leaves row.Init g n reach a seen o t held now nd old new holds s safe is h = enters g n reach a seen o t held now nd old new _ _ _ _ _ _ _ s safe is h

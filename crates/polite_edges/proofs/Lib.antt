@@ -1,3 +1,4 @@
+pub mod Apart
 pub mod Bags
 pub mod Fine
 pub mod Handlers

@@ -1,5 +1,5 @@
 -- The law of edges for the histories of machines.
-use Rattle.std.proofs.Common.{ℕ, zero, suc, ◌+◌, ◌^◌, ◌<◌, ◌≤◌, ◌≡◌, ◌∙◌, cond, Bool, true, List, [], ◌∷◌, get_or, map, refl, sym, ap, subst, arith, IsTrue, Option, Some}
+use Rattle.std.proofs.Common.{ℕ, zero, suc, ◌≤◌, ◌≡◌, ◌∙◌, List, [], ◌∷◌, get_or, map, refl, sym, ap, subst, arith, IsTrue}
 use Rattle.std.proofs.lemmas.Bool.{cond_both}
 use Rattle.tn_base.specs.declared.event.Event.{Event}
 use Rattle.tn_base.specs.declared.shape.ShapeNumbers.{ShapeNumbers}
@@ -11,13 +11,13 @@ use Rattle.tn_detect.specs.Notes.{value_of}
 use Rattle.tn_quiet.specs.Law.{IsQuietWorld}
 use Rattle.tn_quiet.proofs.Runs.{event_quiet}
 use Rattle.tn_rows.specs.PartView.{PartView, TileV, RouterV, LinkV, HostV, DetectorV, AbsentV}
-use Rattle.tn_rows.specs.Runs.{Run, Walk}
+use Rattle.tn_rows.specs.Runs.{Walk}
 use Rattle.tn_rows.specs.WorldView.{WorldView}
 use Rattle.tn_thread.specs.declared.thread.Thread.{Thread}
 use Rattle.tn_thread.specs.Step.{is_idle}
 use Rattle.tn_tile.specs.Rows.{told}
 use Rattle.tn_tile.specs.Step.{no_thread}
-use Rattle.tn_letters.specs.Law.{IsBagRun, IsStart}
+use Rattle.tn_letters.specs.Law.{IsBagRun}
 use Rattle.tn_letters.specs.Settled.{detector_on, released_part, settled}
 use Rattle.tn_letters.specs.Standing.{bag_at}
 use Rattle.tn_letters.specs.State.{Program}
@@ -31,10 +31,10 @@ use Rattle.tn_letters.proofs.Meaning.{bag_run, event_arrives}
 use Rattle.tn_letters.proofs.Settling.{settled_stays}
 use Rattle.tn_letters.proofs.Starts.{good_start}
 use Rattle.tn_letters.proofs.Walks.{run_walk}
-use Rattle.polite_edges.specs.Deeds.{Deed, Lawful}
+use Rattle.polite_edges.specs.Deeds.{Lawful}
 use Rattle.polite_edges.specs.Histories.{EveryHistoryHasEachSendOnce, EveryHistoryIsEven, EveryHistoryIsLawful, GraphHistory, history_deeds}
 use Rattle.polite_edges.specs.Layout.{Layout}
-use Rattle.polite_edges.specs.Runs.{FewSteps, GraphRun, deeds_of}
+use Rattle.polite_edges.specs.Runs.{GraphRun, deeds_of}
 use Rattle.polite_edges.specs.VertexLog.{EvenAtRest}
 use Rattle.polite_edges.proofs.Law.{every_log_is_even, every_run_is_lawful}
 use Rattle.polite_edges.proofs.Once.{once_at_rest}

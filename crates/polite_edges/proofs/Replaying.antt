@@ -1,6 +1,6 @@
 -- The deeds of a run of the bag machine are those of its steps, from its start.
-use Rattle.std.proofs.Common.{ℕ, zero, suc, ◌+◌, ◌<◌, ◌≡◌, ◌≢◌, ◌==◌, ◌&&◌, ◌∙◌, cond, Bool, true, List, [], ◌∷◌, refl, sym, ap, subst, inl, inr, arith, IsTrue, Option, Some, None}
-use Rattle.std.specs.Prelude.{map, option_map, unwrap_or}
+use Rattle.std.proofs.Common.{ℕ, zero, suc, ◌+◌, ◌<◌, ◌≡◌, ◌==◌, ◌&&◌, ◌∙◌, cond, Bool, true, List, [], ◌∷◌, refl, sym, ap, subst, arith, Option, Some, None}
+use Rattle.std.specs.Prelude.{map, unwrap_or}
 use Rattle.std.specs.List.{list_all, range_with_len}
 use Rattle.tn_base.specs.declared.message.Letter.{Letter}
 use Rattle.tn_base.specs.declared.op.Op.{Op}
@@ -16,7 +16,7 @@ use Rattle.tn_tile.specs.Still.{votes_for}
 use Rattle.tn_letters.specs.declared.steps.BagStep.{BagStep}
 use Rattle.tn_letters.specs.declared.steps.BagStep.TheVariants as bag
 use Rattle.tn_letters.specs.declared.steps.Seen.{Seen}
-use Rattle.tn_letters.specs.Machine.{BagRun, Happens, addresses, announced, answer, ended_by, freed, handed, own_step, sent_by, with_own_step}
+use Rattle.tn_letters.specs.Machine.{BagRun, Happens, announced, answer, ended_by, own_step, sent_by, with_own_step}
 use Rattle.tn_letters.specs.State.{BagState, Program, Same, put}
 use Rattle.polite_edges.specs.Deeds.{Announced, Deed, added}
 use Rattle.polite_edges.specs.Histories.{moved, replayed}

@@ -5,7 +5,7 @@ use Rattle.std.proofs.lemmas.Bool.{eq-eqb, eqb-true}
 use Rattle.polite_routes.specs.Hops.{arrives}
 use Rattle.polite_switch.specs.declared.action.SwitchView.{SwitchView}
 use Rattle.polite_switch.specs.SwitchModel.{SwitchModel}
-use Rattle.polite_switch.specs.Table.{Dispatched, dispatched, fault_of, unless_fault}
+use Rattle.polite_switch.specs.Table.{Dispatched, dispatched, fault_of, sent_key, unless_fault}
 use Rattle.polite_switch.proofs.Rows.{row_holds}
 use Rattle.rv_isa.specs.declared.instr.Instr.{Instr}
 use Rattle.tn_base.specs.declared.event.Trap.{Trap}
@@ -39,7 +39,7 @@ use Rattle.polite_edges.proofs.Shown.{Asked, Carries, CarriedBy, Leaves, SeenIs,
 pub record Around (g : Layout) (n : ShapeNumbers) (reach : Reach) (code : List (Option Instr)) (a : ℕ) (seen : Seen) (o : Option Letter) (nd : Node) : Type 0 where
   pub seen_is : SeenIs seen o
   pub hand : HandFits nd.hand nd.switch.course.hand
-  pub reach_is : (key : ℕ) (bytes : List ℕ) → reach (board_of a) key bytes ≡ map (arrives bytes) (g.hops a key)
+  pub reach_is : (key : ℕ) (bytes : List ℕ) → sent_key nd.switch.devices nd.switch.course.call ≡ Some key → reach (board_of a) key bytes ≡ map (arrives bytes) (g.hops a key)
   pub host : g.in_edges host_address ≡ []
   pub code_ends : slice_get code (0xFFFFFFF0 / 4) ≡ None
 

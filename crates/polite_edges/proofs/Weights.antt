@@ -45,11 +45,11 @@ key_back : (key : ℕ) (bytes : List ℕ) → key < 65536 → key_in (with_key k
 key_back key bytes small = omega arith
 
 -- what the letters of a keyed send will bring
-letters_weigh : (w : Item → ℕ) (g : Layout) (origin number key : ℕ) (bytes : List ℕ) → AllRouted g → flying w g (letters g origin number bytes key)
+letters_weigh : (w : Item → ℕ) (g : Layout) (origin number key : ℕ) (bytes : List ℕ) → AllByRecursion (λ (h : Hop). h.local < 65536) (g.hops origin key) → flying w g (letters g origin number bytes key)
     ≡ sum_by (found_by g (λ e k. w (record { edge = e; origin = origin; number = number; bytes = with_key k bytes }))) (g.hops origin key)
-letters_weigh w g origin number key bytes all =
+letters_weigh w g origin number key bytes narrow =
     sum_by-map (brings w g) (letter_at origin number bytes) (g.hops origin key)
-    ∙ sum_by-same (λ (h : Hop). h.local < 65536) _ _ (g.hops origin key) (all.narrow origin key) (λ (h : Hop) small. ap (λ k. sum_by (λ (e : InEdge). w (item_of e.edge (letter_at origin number bytes h))) (edges_at (g.in_edges h.receiver) k)) (key_back h.local bytes small))
+    ∙ sum_by-same (λ (h : Hop). h.local < 65536) _ _ (g.hops origin key) narrow (λ (h : Hop) small. ap (λ k. sum_by (λ (e : InEdge). w (item_of e.edge (letter_at origin number bytes h))) (edges_at (g.in_edges h.receiver) k)) (key_back h.local bytes small))
 
 -- the weight of a list of letters and of the flight after it
 abbrev Flown : (Item → ℕ) → Layout → Option ℕ → ℕ → ℕ → List ℕ → List Letter → List Letter → Type 0
@@ -61,12 +61,12 @@ flown w None g d n old new h = h w
 flown w (Some key) g d n old new h = h w
 
 -- what a send by a pin makes due is what its letters will bring
-sent_weighs : (w : Item → ℕ) (g : Layout) (key : Option ℕ) (s : Send) (old new : List Letter) → AllRouted g → IsRouted key g s.thread (g.edges s.vertex s.pin) → Flown w g key s.thread s.number s.bytes old new
+sent_weighs : (w : Item → ℕ) (g : Layout) (key : Option ℕ) (s : Send) (old new : List Letter) → IsRouted key g s.thread (g.edges s.vertex s.pin) → Flown w g key s.thread s.number s.bytes old new
     → flying w g new ≡ sum_by w (map (due_of g s) (g.edges s.vertex s.pin)) + flying w g old
-sent_weighs w g None s old new all routed f = let e = ap (λ es. sum_by w (map (due_of g s) es)) routed in omega arith
-sent_weighs w g (Some key) s old new all routed f =
-    let a = letters_weigh w g s.thread s.number key s.bytes all in
-    let b = routed (λ e k. w (record { edge = e; origin = s.thread; number = s.number; bytes = with_key k s.bytes })) in
+sent_weighs w g None s old new routed f = let e = ap (λ es. sum_by w (map (due_of g s) es)) routed in omega arith
+sent_weighs w g (Some key) s old new routed f =
+    let a = letters_weigh w g s.thread s.number key s.bytes routed.0 in
+    let b = routed.1 (λ e k. w (record { edge = e; origin = s.thread; number = s.number; bytes = with_key k s.bytes })) in
     let c = sum_by-map w (due_of g s) (g.edges s.vertex s.pin) in
     omega arith
 
@@ -85,7 +85,7 @@ send_row w g d n log old new (Some call) after once there devices fits same fl =
     let routed : IsRouted key g d.thread (g.edges s.vertex s.pin) =
     subst (λ (ds : List DeviceModel). IsRouted (key_at (device_at ds call.device) call.pin) g d.thread (g.edges (vertex_in ds call.device) call.pin)) (sym devices)
     (once.pin d.thread call.device call.pin there (subst (λ (ds : List DeviceModel). call.device < length ds) devices (fits call refl))) in
-    let e = sent_weighs w g key s old new once routed (flown w key g d n old new fl) in
+    let e = sent_weighs w g key s old new routed (flown w key g d n old new fl) in
     let a = sum_by-append w (map (due_of g s) (g.edges s.vertex s.pin)) (due g log) in
     omega arith
 

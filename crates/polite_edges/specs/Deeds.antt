@@ -58,7 +58,7 @@ pub record Doer : Type 0 where
 abbrev pub sent_by : Doer → Call → Send
 sent_by x call = record { thread = x.thread; device = call.device; vertex = vertex_in x.devices call.device; pin = call.pin; number = x.sends; bytes = x.message }
 
--- the deed of a dispatch that did this and begun this call last
+-- the deed of a dispatch: what it has the thread do, and the call that was begun last
 abbrev pub deed_of : Action → Option Call → Doer → Option Deed
 deed_of (action.Handler entry state message value vertex ready) None x = None
 deed_of (action.Handler entry state message value vertex ready) (Some call) x = begun_by call.entry x.thread call (vertex_in x.devices call.device) x.held

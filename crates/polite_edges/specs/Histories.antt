@@ -1,5 +1,5 @@
 -- The deeds of the histories of a machine, and the law on them.
-use Rattle.std.specs.Prelude.{◌≡◌, List, [], ◌∷◌, unwrap_or}
+use Rattle.std.specs.Prelude.{List, [], ◌∷◌, unwrap_or}
 use Rattle.tn_base.specs.declared.event.Event.{Event}
 use Rattle.tn_rows.specs.Runs.{Run}
 use Rattle.tn_rows.specs.WorldView.{WorldView}

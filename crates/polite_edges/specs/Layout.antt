@@ -37,17 +37,23 @@ with_key key bytes = keyed 2 key bytes
 abbrev pub found : Layout → (ℕ → ℕ → ℕ) → Hop → ℕ
 found g weight h = sum_by (λ (e : InEdge). weight e.edge h.local) (edges_at (g.in_edges h.receiver) h.local)
 
--- what a key finds is exactly these edges, each once and under its local key: of each weight the sums are the same. Without a key
--- there are no edges
+-- what a key finds is exactly these edges, each once and under its local key: of each weight the sums are the same. Local keys have 16
+-- bits. Without a key there are no edges
 abbrev pub IsRouted : Option ℕ → Layout → ℕ → List ℕ → Type 0
 IsRouted None g a edges = edges ≡ []
-IsRouted (Some key) g a edges = (weight : ℕ → ℕ → ℕ) → sum_by (found g weight) (g.hops a key) ≡ sum_by (λ (e : ℕ). weight e (g.local e)) edges
+IsRouted (Some key) g a edges =
+    AllByRecursion (λ (h : Hop). h.local < 65536) (g.hops a key) × ((weight : ℕ → ℕ → ℕ) → sum_by (found g weight) (g.hops a key) ≡ sum_by (λ (e : ℕ). weight e (g.local e)) edges)
 
 -- the key of each pin finds exactly the pin's edges
 pub record AllRouted (g : Layout) : Type 0 where
   pub pin : (a d p : ℕ) → IsTrue (has_thread g.shape a) → d < device_count g a → IsRouted (key_at (device_at (g.devices a) d) p) g a (g.edges (vertex_in (g.devices a) d) p)
-  -- local keys have 16 bits
-  pub narrow : (a key : ℕ) → AllByRecursion (λ (h : Hop). h.local < 65536) (g.hops a key)
+
+-- a key of a pin of one of a thread's devices
+pub record IsKeyOf (g : Layout) (a key : ℕ) : Type 0 where
+  pub device : ℕ
+  pub pin : ℕ
+  pub there : device < device_count g a
+  pub is : key_at (device_at (g.devices a) device) pin ≡ Some key
 
 -- a softswitch can be made of the devices and the in-edges of each thread, and no in-edges are elsewhere
 pub record IsPlaced (g : Layout) : Type 0 where

@@ -22,7 +22,7 @@ use Rattle.tn_letters.specs.declared.steps.Seen.{Seen}
 use Rattle.tn_letters.specs.Letters.{board_of, host_address}
 use Rattle.tn_letters.specs.Machine.{BagRun, answer, own_step, sight}
 use Rattle.tn_letters.specs.State.{BagState, Program}
-use Rattle.polite_edges.specs.Layout.{AllRouted, IsPlaced, Layout}
+use Rattle.polite_edges.specs.Layout.{AllRouted, IsKeyOf, IsPlaced, Layout}
 use Rattle.polite_edges.specs.Deeds.{Announced, Deed, Doer, Lawful, added, deed_of}
 use Rattle.polite_edges.specs.VertexLog.{EdgesApart, EvenAtRest, OnceAtRest}
 
@@ -90,7 +90,8 @@ IsAwait (item.Send t bytes) = ⊥
 IsAwait item.AwaitIdle = ⊤
 
 -- the start of the machine of a graph: each thread is at its start and holds nothing, nothing is in flight, and the host sends nothing.
--- No code stands at the firmware's address, and the machine's tables lead each key as the layout says
+-- No code stands at the firmware's address, the machine's tables lead each key of a pin as the layout says, and the host is no thread
+-- with in-edges
 pub record IsGraphStart (g : Layout) (m : Program) (s : BagState) : Type 0 where
   pub shape : m.shape ≡ g.shape
   pub machine : IsTrue (is_shape g.shape)
@@ -99,7 +100,7 @@ pub record IsGraphStart (g : Layout) (m : Program) (s : BagState) : Type 0 where
   pub flight : s.flight ≡ []
   pub script : AllByRecursion IsAwait s.script
   pub code : (a : ℕ) → IsTrue (has_thread g.shape a) → slice_get (m.code a) (0xFFFFFFF0 / 4) ≡ None
-  pub reach : (a key : ℕ) (bytes : List ℕ) → IsTrue (has_thread g.shape a) → m.reach (board_of a) key bytes ≡ map (arrives bytes) (g.hops a key)
+  pub reach : (a key : ℕ) (bytes : List ℕ) → IsTrue (has_thread g.shape a) → IsKeyOf g a key → m.reach (board_of a) key bytes ≡ map (arrives bytes) (g.hops a key)
   pub host : g.in_edges host_address ≡ []
 
 -- no thread has made as many steps as there are numbers of packets, so no number came again

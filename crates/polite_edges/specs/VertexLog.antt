@@ -1,5 +1,7 @@
 -- The vertex log: the sends, receives, steps and finishes of the vertices of a graph, newest first.
 use Rattle.std.specs.Prelude.{ℕ, ◌+◌, ◌≡◌, ◌<◌, ◌≤◌, ◌⊎◌, ◌==◌, ◌&&◌, Bool, List, [], ◌∷◌, ◌++◌, count_by, map, if◌then◌else◌}
+use Rattle.graph_text.specs.declared.graph.EdgeRow.{EdgeRow}
+use Rattle.polite_routes.specs.Pins.{edges_of}
 use Rattle.polite_edges.specs.Layout.{Layout, with_key}
 use Rattle.polite_edges.specs.Deeds.{Announced, Deed, Finished, Inited, Missed, Received, Sent, Stepped}
 
@@ -120,3 +122,7 @@ OnceAtRest g (Missed a d e ∷ older) = OnceAtRest g older
 OnceAtRest g (Stepped a d v ∷ older) = OnceAtRest g older
 OnceAtRest g (Finished a d v ∷ older) = OnceAtRest g older
 OnceAtRest g (Announced value ∷ older) = EachOnceArrived g (vertex_log older) × OnceAtRest g older
+
+-- if the edges of pins are those of a graph, each edge is an edge of one pin alone, once
+abbrev pub GraphEdgesAreApart : Type 0
+GraphEdgesAreApart = (g : Layout) (rows : List EdgeRow) → ((u pin : ℕ) → g.edges u pin ≡ edges_of rows u pin) → EdgesApart g

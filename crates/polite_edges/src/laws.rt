@@ -2,6 +2,7 @@
 
 ghost use Rattle.polite_edges.specs.Histories.{EveryHistoryHasEachSendOnce, EveryHistoryIsEven, EveryHistoryIsLawful};
 ghost use Rattle.polite_edges.specs.Runs.{EveryEdgeHasEachSendOnce, EveryLogIsEven, EveryRunIsLawful};
+ghost use Rattle.polite_edges.specs.VertexLog.{GraphEdgesAreApart};
 
 /// Whatever the handlers do, and in whatever order the machine steps: in each run of the bag machine of a graph, nothing was received
 /// that was not due by an earlier send, and no recv handler is called without its letter. Each step handler is called after an
@@ -21,4 +22,9 @@ pub fn law_histories()
     ensures lawful { EveryHistoryIsLawful }
     ensures even { EveryHistoryIsEven }
     ensures once { EveryHistoryHasEachSendOnce }
+{}
+
+/// In a graph each edge is an edge of one pin of one vertex, once: it is the pin that the edge's line names.
+pub fn law_apart()
+    ensures { GraphEdgesAreApart }
 {}
