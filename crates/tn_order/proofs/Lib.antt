@@ -5,6 +5,7 @@ pub mod Keeps
 pub mod Landing
 pub mod Moving
 pub mod Numbers
+pub mod OtherEvents
 pub mod PartViews
 pub mod Passing
 pub mod Rises

@@ -1,5 +1,5 @@
 -- The events that move packets keep the order.
-use Rattle.std.proofs.Common.{ℕ, ◌≡◌, ◌<◌, ◌&&◌, ◌==◌, Bool, true, false, cond, refl, sym, ◌∙◌, ap, subst, inl, inr, arith, List, [], ◌∷◌, IsTrue, Option, Some, None, option_map}
+use Rattle.std.proofs.Common.{ℕ, ◌≡◌, ◌&&◌, Bool, true, refl, sym, ◌∙◌, ap, subst, inl, inr, arith, List, IsTrue, Some}
 use Rattle.std.specs.Prelude.{◌⊎◌}
 use Rattle.std.proofs.lemmas.Bool.{and_parts, eqb-true}
 use Rattle.tn_base.specs.declared.event.Event.{Event}
@@ -11,12 +11,11 @@ use Rattle.tn_base.specs.declared.message.Dest.{Dest}
 use Rattle.tn_base.specs.declared.message.Packet.{Packet}
 use Rattle.tn_base.specs.declared.part.Kind.{Kind}
 use Rattle.tn_base.specs.declared.part.Kind.TheVariants as kind
-use Rattle.tn_base.specs.declared.shape.ShapeNumbers.{ShapeNumbers}
-use Rattle.tn_base.specs.Address.{has_thread, place_in_tile, tile_of}
-use Rattle.tn_base.specs.Parts.{kind_of, part_count}
+use Rattle.tn_base.specs.Address.{has_thread, place_in_tile}
+use Rattle.tn_base.specs.Parts.{kind_of}
 use Rattle.tn_link.specs.LinkRows.{front_of}
 use Rattle.tn_link.specs.LinkView.{LinkView}
-use Rattle.tn_quiet.proofs.Machines.{AtOne, AtTwo, by_test, by_tests, by_thread}
+use Rattle.tn_quiet.proofs.Machines.{by_test, by_tests, by_thread}
 use Rattle.tn_router.specs.RouterView.{RouterView, now_by as router_now_by, with_now as router_with_now}
 use Rattle.tn_router.specs.Rows.{route_row}
 use Rattle.tn_rows.specs.Events.{Met, after, crossing_of, happened, meets, with_both, with_part}
@@ -31,7 +30,7 @@ use Rattle.tn_tile.specs.TileView.{TileView, now_by, with_now}
 use Rattle.tn_tile.proofs.Steps.{taken}
 use Rattle.tn_letters.proofs.Calm.{quiet_start}
 use Rattle.tn_letters.proofs.GoodParts.{walk_good}
-use Rattle.tn_letters.proofs.Lift.{Good, GoodRouter, GoodTile, OnPart, StandsAt, part_on, stands_on, tile_on}
+use Rattle.tn_letters.proofs.Lift.{Good, GoodRouter, OnPart, StandsAt, part_on, stands_on, tile_on}
 use Rattle.tn_letters.proofs.Simulate.{Place}
 use Rattle.tn_letters.proofs.Starts.{good_start}
 use Rattle.tn_letters.proofs.Walks.{on_read}
@@ -188,7 +187,7 @@ routes_part s goal mine w p AbsentV behind q sent gone is good on row kept = cc 
 -- ---- a delivery
 
 -- the thread of a delivery is at its place on the tile
-here_is : (w : WorldView) (p a : ℕ) (v : TileView) → Good w → OnPart w p (TileV v) → is_here v.plan a ≡ true → Place w p v a (place_in_tile v.plan.shape a)
+pub here_is : (w : WorldView) (p a : ℕ) (v : TileView) → Good w → OnPart w p (TileV v) → is_here v.plan a ≡ true → Place w p v a (place_in_tile v.plan.shape a)
 here_is w p a v good on here =
     let t = tile_on w p v good on in
     let parts = and_parts _ _ here in

@@ -1,5 +1,5 @@
 -- Arrivals at tiles and deliveries keep the order, or a letter is dropped for the receiver.
-use Rattle.std.proofs.Common.{ℕ, ◌≡◌, ◌≢◌, ◌<◌, ◌&&◌, Bool, true, false, cond, refl, sym, ◌∙◌, ap, subst, inl, inr, List, [], ◌∷◌, ◌++◌, length, get_or, set, IsTrue, Option, Some, None, option_map, unwrap_or}
+use Rattle.std.proofs.Common.{ℕ, ◌≡◌, ◌<◌, ◌&&◌, Bool, true, cond, refl, sym, ◌∙◌, ap, subst, inl, inr, List, [], ◌∷◌, length, set, Option, Some, None, option_map}
 use Rattle.std.specs.Prelude.{◌⊎◌}
 use Rattle.std.proofs.lemmas.Bool.{cases_Bool, cases_eq}
 use Rattle.std.proofs.lemmas.List.{get_or-set_other, get_or-set_same}
@@ -9,7 +9,6 @@ use Rattle.tn_base.specs.declared.ids.TileId.{TileId}
 use Rattle.tn_base.specs.declared.message.Dest.{Dest}
 use Rattle.tn_base.specs.declared.message.Dest.TheVariants as dest
 use Rattle.tn_base.specs.declared.message.Packet.{Packet}
-use Rattle.tn_base.specs.declared.part.Kind.{Kind}
 use Rattle.tn_base.specs.declared.part.Kind.TheVariants as kind
 use Rattle.tn_base.specs.declared.shape.ShapeNumbers.{ShapeNumbers}
 use Rattle.tn_base.specs.Message.{has_packet}
@@ -23,7 +22,6 @@ use Rattle.tn_rows.specs.Events.{Met, after, crossing_of, meets, with_both, with
 use Rattle.tn_rows.specs.PartView.{PartView, TileV, LinkV}
 use Rattle.tn_rows.specs.WorldView.{WorldView}
 use Rattle.tn_rows.proofs.Meeting.{mapped}
-use Rattle.tn_stamp.specs.declared.entry.Crossing.{Crossing}
 use Rattle.tn_stamp.specs.declared.entry.Crossing.TheVariants as crossing
 use Rattle.tn_tile.specs.declared.state.TileState.{TileState}
 use Rattle.tn_tile.specs.Rows.{accept_row, accepted, came, can_count, delivered_from, passed}
@@ -47,7 +45,7 @@ use Rattle.tn_order.proofs.Landing.{IsLost, Landing, Lost, Stands, lands}
 use Rattle.tn_order.proofs.PartViews.{tile_pending}
 use Rattle.tn_order.proofs.Passing.{first_for, part_with, stay}
 use Rattle.tn_order.proofs.SpotNet.{not_pending}
-use Rattle.tn_order.proofs.Steps.{Gets, Gives, OfOne, back, gives_takes, link_gives, on_mid, within_part}
+use Rattle.tn_order.proofs.Steps.{Gets, Gives, back, gives_takes, link_gives, on_mid, within_part}
 use Rattle.tn_order.proofs.Views.{at_part, beside, was_part}
 
 -- the order is kept, and what is gone is the same; or the letter for the receiver is dropped, and is gone
