@@ -1,10 +1,9 @@
 -- A packet that a tile drops for the receiver is an act of its event.
-use Rattle.std.proofs.Common.{ℕ, zero, suc, ◌+◌, ◌-◌, ◌^◌, ◌≡◌, ◌≤◌, ◌<◌, ◌==◌, ◌&&◌, Bool, true, false, cond, refl, sym, ◌∙◌, ap, subst, inl, inr, arith, List, [], ◌∷◌, ◌++◌, length, get_or, map, IsTrue, sum_by, min}
-use Rattle.std.specs.Prelude.{◌⊎◌}
+use Rattle.std.proofs.Common.{ℕ, zero, suc, ◌+◌, ◌-◌, ◌^◌, ◌≡◌, ◌≤◌, ◌<◌, ◌==◌, ◌&&◌, Bool, true, false, cond, refl, sym, ◌∙◌, ap, subst, inl, inr, arith, List, [], ◌∷◌, length, map, IsTrue, sum_by, min}
 use Rattle.std.specs.Int.{bit_at, bit_not, w64}
 use Rattle.std.specs.Int.Bits.{bit_and}
 use Rattle.std.specs.List.{filter, flat_map, range_with_len}
-use Rattle.std.proofs.lemmas.Bool.{and_parts, cases_Bool, cases_eq, eq-eqb, eqb-true}
+use Rattle.std.proofs.lemmas.Bool.{and_parts, cases_eq, eq-eqb, eqb-true}
 use Rattle.std.proofs.lemmas.List.{get_or_default}
 use Rattle.std.proofs.lemmas.List.Sums.{sum_by-cons}
 use Rattle.std.proofs.Math.Nat.{pow-le-pow_right}
@@ -31,12 +30,11 @@ use Rattle.tn_tile.specs.TileView.{TileView}
 use Rattle.tn_tile.proofs.Dead.{dead_at, dead_below}
 use Rattle.tn_tile.proofs.Packed.{few_places}
 use Rattle.tn_letters.specs.declared.steps.BagStep.TheVariants as bag
-use Rattle.tn_letters.specs.Letters.{letter, packet_letters}
+use Rattle.tn_letters.specs.Letters.{packet_letters}
 use Rattle.tn_letters.specs.Steps.{is_for_dead}
 use Rattle.tn_letters.proofs.Receivers.{letters_here, place_letter, thread_here}
 use Rattle.tn_order.specs.Acts.{Act, Dropped}
-use Rattle.tn_order.specs.History.{behind, gone_of, receiver_of, sent_of, step_ends}
-use Rattle.tn_order.specs.Kept.{IsFor}
+use Rattle.tn_order.specs.History.{behind, gone_of, sent_of, step_ends}
 use Rattle.tn_order.specs.Net.{In}
 use Rattle.tn_order.proofs.Acting.{dropped_in, gone_later}
 use Rattle.tn_order.proofs.Landing.{IsLost}

@@ -46,7 +46,8 @@ use Rattle.tn_order.proofs.Steps.{Gets, OfOne}
 
 -- the receiver ended, if it is a thread: it is not among those of the packet that are alive
 abbrev pub IsLost : TileView → Dest → Dest → Type 0
-IsLost v (dest.Thread t) d = (tile_port v.plan.tile d ≡ port.Here) × (bit_at (alive_of v.now.threads (receivers v.plan.shape d)) (place_in_tile v.plan.shape t.0) ≡ 0)
+IsLost v (dest.Thread t) d =
+    (tile_port v.plan.tile d ≡ port.Here) × (bit_at (alive_of v.now.threads (receivers v.plan.shape d)) (place_in_tile v.plan.shape t.0) ≡ 0) × (bit_at (receivers v.plan.shape d) (place_in_tile v.plan.shape t.0) ≡ 1) × (tile_port v.plan.tile (dest.Thread t) ≡ port.Here)
 IsLost v dest.Host d = ⊥
 IsLost v (dest.Mask tile mask) d = ⊥
 IsLost v (dest.Key key) d = ⊥
@@ -162,7 +163,7 @@ stays_here (dest.Thread t) w p v s k limits good there here row =
           absurd (ne (ap (λ x. tile_part (tile_place n x)) on ∙ good.part)))
       | inl e ↦ elim (bit_cases alive place) [
         | inl b ↦ Stands Queue (slot_item goal (record { origin = k.origin; number = k.number })) (record { here = e; last = st.yes_in b; others = tile_queue goal w p v s st.but }) (record { origin = refl; number = refl }) (sym (ap (onward p) here)) (inr refl)
-        | inr b ↦ Lost (lost_spots goal w p v s st.but (λ z. st.not_in b)) (λ for. (here, b))
+        | inr b ↦ Lost (lost_spots goal w p v s st.but (λ z. st.not_in b)) (λ for. (here, b, subst (λ m. bit_at (receivers m k.dest) (place_in_tile m t.0) ≡ 1) (sym good.shape) for.receiver, sym (for.port (kind.Tile (record { 0 = v.plan.tile }))) ∙ here))
       ]
     ]
 

@@ -2,6 +2,7 @@ pub mod Acting
 pub mod Counted
 pub mod Crossing
 pub mod Dropping
+pub mod Each
 pub mod Keeps
 pub mod Landing
 pub mod Moving

@@ -86,14 +86,14 @@ stands_as_link (kind.Tile t) y s = absurd s
 stands_as_link (kind.Router b) y s = absurd s
 stands_as_link kind.Detector y s = absurd s
 
-from_link : (p : ℕ) (k : Kind) → leads_from p k ≡ true → (from : PartId) × (onto : PartId) × (k ≡ kind.Link from onto)
+pub from_link : (p : ℕ) (k : Kind) → leads_from p k ≡ true → (from : PartId) × (onto : PartId) × (k ≡ kind.Link from onto)
 from_link p (kind.Link from onto) e = (from, onto, refl)
 from_link p kind.Host e = cc e
 from_link p (kind.Tile t) e = cc e
 from_link p (kind.Router b) e = cc e
 from_link p kind.Detector e = cc e
 
-to_link : (p : ℕ) (k : Kind) → leads_to p k ≡ true → (from : PartId) × (onto : PartId) × (k ≡ kind.Link from onto) × (onto.0 ≡ p)
+pub to_link : (p : ℕ) (k : Kind) → leads_to p k ≡ true → (from : PartId) × (onto : PartId) × (k ≡ kind.Link from onto) × (onto.0 ≡ p)
 to_link p (kind.Link from onto) e = (from, onto, refl, eqb-true onto.0 p e)
 to_link p kind.Host e = cc e
 to_link p (kind.Tile t) e = cc e
@@ -101,7 +101,7 @@ to_link p (kind.Router b) e = cc e
 to_link p kind.Detector e = cc e
 
 -- the part to which a link leads is no link
-no_link : {A : Type 0} (w : WorldView) (p q : ℕ) (y : LinkView) (from onto : PartId) → Good w → OnPart w p (LinkV y) → kind_of w.shape q ≡ kind.Link from onto → onto.0 ≡ p → A
+pub no_link : {A : Type 0} (w : WorldView) (p q : ℕ) (y : LinkView) (from onto : PartId) → Good w → OnPart w p (LinkV y) → kind_of w.shape q ≡ kind.Link from onto → onto.0 ≡ p → A
 no_link w p q y from onto good on link at =
     let own = stands_as_link (kind_of w.shape p) y (stands_on w p (LinkV y) good on) in
     let low = (good.leads q from onto link).onto_visited in
@@ -110,7 +110,7 @@ no_link w p q y from onto good on link at =
 
 -- ---- a departure
 
-departs_part : (s : ℕ) (goal : Dest) (mine : ℕ → ℕ → Bool) (w : WorldView) (p q : ℕ) (low : PartView) (x : LinkView) (m : Met) (here there : PartId) (sent gone : List ℕ) → IsNet (way_of w.shape s goal) → Good w → OnPart w p low → OnPart w q (LinkV x) → there.0 ≡ q → IsTrue (leads_from p (kind_of w.shape q)) →
+pub departs_part : (s : ℕ) (goal : Dest) (mine : ℕ → ℕ → Bool) (w : WorldView) (p q : ℕ) (low : PartView) (x : LinkView) (m : Met) (here there : PartId) (sent gone : List ℕ) → IsNet (way_of w.shape s goal) → Good w → OnPart w p low → OnPart w q (LinkV x) → there.0 ≡ q → IsTrue (leads_from p (kind_of w.shape q)) →
     meets (event.Depart here there) low (LinkV x) ≡ Some m → Kept w.shape (way_of w.shape s goal) goal mine (standing_at goal w) sent gone → Kept w.shape (way_of w.shape s goal) goal mine (standing_at goal (with_both w p q m)) sent gone
 departs_part s goal mine w p q (TileV v) x m here there sent gone is good on off at from row kept = tile_departs s goal mine w p q v x m here there sent gone is on off (tile_on w p v good on).shape at from row kept
 departs_part s goal mine w p q (RouterV v) x m here there sent gone is good on off at from row kept =
@@ -134,7 +134,7 @@ depart_keeps s goal mine w new here there sent gone good h kept =
 
 -- ---- an arrival
 
-arrives_part : (s : ℕ) (goal : Dest) (mine : ℕ → ℕ → Bool) (w : WorldView) (p q : ℕ) (low : PartView) (x : LinkView) (m : Met) (there here from onto : PartId) (sent gone : List ℕ) → IsNet (way_of w.shape s goal) → Good w → IsReceiver w.shape goal → IsFor w.shape goal goal → OnPart w p low → OnPart w q (LinkV x) → there.0 ≡ q →
+pub arrives_part : (s : ℕ) (goal : Dest) (mine : ℕ → ℕ → Bool) (w : WorldView) (p q : ℕ) (low : PartView) (x : LinkView) (m : Met) (there here from onto : PartId) (sent gone : List ℕ) → IsNet (way_of w.shape s goal) → Good w → IsReceiver w.shape goal → IsFor w.shape goal goal → OnPart w p low → OnPart w q (LinkV x) → there.0 ≡ q →
     kind_of w.shape q ≡ kind.Link from onto → onto.0 ≡ p → meets (event.Arrive there here) low (LinkV x) ≡ Some m → Kept w.shape (way_of w.shape s goal) goal mine (standing_at goal w) sent gone → Keeps s goal mine w sent gone (with_both w p q m)
 arrives_part s goal mine w p q (TileV v) x m there here from onto sent gone is good receiver self on off at link to row kept =
     let t = stands_tile (kind_of w.shape p) v (stands_on w p (TileV v) good on) in
@@ -171,7 +171,7 @@ arrive_keeps s goal mine w new there here sent gone good receiver self h kept =
 
 -- ---- a Route
 
-routes_part : (s : ℕ) (goal : Dest) (mine : ℕ → ℕ → Bool) (w : WorldView) (p : ℕ) (part behind : PartView) (q : PartId) (sent gone : List ℕ) → IsNet (way_of w.shape s goal) → Good w → OnPart w p part → after (event.Route q) crossing.None part ≡ Some behind →
+pub routes_part : (s : ℕ) (goal : Dest) (mine : ℕ → ℕ → Bool) (w : WorldView) (p : ℕ) (part behind : PartView) (q : PartId) (sent gone : List ℕ) → IsNet (way_of w.shape s goal) → Good w → OnPart w p part → after (event.Route q) crossing.None part ≡ Some behind →
     Kept w.shape (way_of w.shape s goal) goal mine (standing_at goal w) sent gone → Kept w.shape (way_of w.shape s goal) goal mine (standing_at goal (with_part w p behind)) sent gone
 routes_part s goal mine w p (RouterV v) behind q sent gone is good on row kept =
     let a = mapped RouterV (router_now_by v (route_row v.plan v.now)) behind row in

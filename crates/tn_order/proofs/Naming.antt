@@ -1,5 +1,5 @@
 -- A destination without a key that names a receiver takes the receiver's ways.
-use Rattle.std.proofs.Common.{ℕ, ◌≡◌, ◌<◌, ◌*◌, ◌/◌, ◌%◌, ◌==◌, ◌&&◌, Bool, true, false, cond, refl, sym, ◌∙◌, ap, subst, arith, IsTrue}
+use Rattle.std.proofs.Common.{ℕ, ◌≡◌, ◌<◌, ◌%◌, ◌==◌, ◌&&◌, true, cond, refl, sym, ◌∙◌, ap, subst, arith, IsTrue}
 use Rattle.std.specs.Int.{bit_at}
 use Rattle.std.proofs.lemmas.Bool.{and_parts, eqb-true}
 use Rattle.std.proofs.lemmas.Bool.Decides.{nat_tests}
@@ -15,7 +15,7 @@ use Rattle.tn_base.specs.declared.port.Port.TheVariants as port
 use Rattle.tn_base.specs.declared.shape.ShapeNumbers.{ShapeNumbers}
 use Rattle.tn_base.specs.Address.{has_thread, has_tile, place_in_tile, tile_of}
 use Rattle.tn_base.specs.Message.{has_dest}
-use Rattle.tn_base.specs.Ports.{board_x, board_y, port_from, same_board, tile_x, tile_y, to_board, to_router, to_tile, toward}
+use Rattle.tn_base.specs.Ports.{board_x, board_y, port_from, tile_x, tile_y, to_board, to_router, to_tile, toward}
 use Rattle.tn_base.specs.Shape.{WithinLimits}
 use Rattle.tn_tile.proofs.Packed.{receiver_bit}
 use Rattle.tn_letters.specs.Letters.{host_address}

@@ -4,6 +4,7 @@ ghost use Rattle.std.specs.Prelude.{ℕ};
 ghost use Rattle.tn_base.specs.declared.message.Dest.{Dest};
 ghost use Rattle.tn_order.specs.Acting.{EachActingKeeps};
 ghost use Rattle.tn_order.specs.Acts.{EveryRunNumbersRise};
+ghost use Rattle.tn_order.specs.Each.{EachEventKeeps};
 ghost use Rattle.tn_order.specs.Law.{EachChangeKeeps, EarlierIsGone};
 ghost use Rattle.tn_order.specs.Moving.{EachMovingKeeps};
 ghost use Rattle.tn_order.specs.Net.{IsNet};
@@ -49,4 +50,11 @@ pub fn law_moving()
 /// have a number above all that are meant and were sent before.
 pub fn law_acting()
     ensures { EachActingKeeps }
+{}
+
+/// Each event of a machine keeps the letters of one sender for one receiver in order, by what the event sends, hands and drops. Whichever
+/// numbers of the sender are meant, each send that is meant has to be for the receiver and to have a number above all that are meant and
+/// were sent before.
+pub fn law_each()
+    ensures { EachEventKeeps }
 {}

@@ -1,6 +1,4 @@
 use Rattle.tn_order.proofs.Moving.{each_moving_keeps}
-use Rattle.tn_order.proofs.Dropping.{drop_is_act}
-use Rattle.tn_order.proofs.Naming.{names_for}
 use Rattle.tn_order.proofs.laws.law_moving.Goals as goal
 
 pub returns : goal.returns
