@@ -31,7 +31,6 @@ use Rattle.tn_node.specs.Deed as deed
 use Rattle.tn_node.specs.PortRows.{at}
 use Rattle.tn_node.specs.SamePacket.{is_packet}
 use Rattle.tn_quiet.specs.Law.{IsQuietWorld}
-use Rattle.tn_quiet.proofs.Runs.{walk_quiet}
 use Rattle.tn_router.specs.declared.state.RouterState.{RouterState}
 use Rattle.tn_router.specs.RouterView.{RouterView, with_now as router_with_now}
 use Rattle.tn_router.specs.Rows.{gone_on as router_gone_on, released as router_released, router_whitened}
@@ -54,17 +53,14 @@ use Rattle.tn_letters.specs.Letters.{host_address}
 use Rattle.tn_letters.specs.Settled.{released_part}
 use Rattle.tn_letters.specs.Steps.{after_step, meeting_steps, part_steps, put_steps, send_steps, steps_at, take_steps}
 use Rattle.tn_letters.specs.Tiles.{reach_of, tile_for}
-use Rattle.tn_letters.proofs.Calm.{quiet_start}
 use Rattle.tn_letters.proofs.Crossings.{put_is, take_is}
 use Rattle.tn_letters.proofs.Detected.{Alone, Paired, alone, confirm_paired, go_paired, going_part, release_paired, report_paired, whitened_part}
-use Rattle.tn_letters.proofs.GoodParts.{walk_good}
 use Rattle.tn_letters.proofs.Lift.{Good, GoodLink, IsForHost, OnPart, leads_to_host, on_new, part_is, part_on, stands_on, tile_is, twice, with_tile}
 use Rattle.tn_letters.proofs.Links.{two_parts}
 use Rattle.tn_letters.proofs.Simulate.{Place}
-use Rattle.tn_letters.proofs.Starts.{good_start}
 use Rattle.tn_letters.proofs.Threads.{step_reached}
 use Rattle.tn_letters.proofs.Walks.{first_is, on_read}
-use Rattle.tn_order.specs.Acting.{ActsFit, EachActingKeeps, SendFits}
+use Rattle.tn_order.specs.Acting.{ActsFit, SendFits}
 use Rattle.tn_order.specs.Acts.{Act, Sent, Handed, sent_with}
 use Rattle.tn_order.specs.History.{behind, event_acts, gone_of, receiver_of, sent_of, step_acts, step_ends, turn_acts}
 use Rattle.tn_order.specs.Kept.{IsFor}
@@ -375,9 +371,3 @@ acting_keeps (event.Release p) s goal mine past w new good quiet h other there o
     with_no_acts s goal mine past (event_acts (event.Release p) w) w new (no_acts (event.Release p) w (nat_lt p.0 (visited w.shape)) p.0 (λ low high. refl)) (paired_keeps s goal mine past w new p.0 _ _ good (released_same goal) (release_paired p w new good quiet h) kept)
 acting_keeps (event.Go p) s goal mine past w new good quiet h other there own fits kept =
     with_no_acts s goal mine past (event_acts (event.Go p) w) w new (no_acts (event.Go p) w (nat_lt p.0 (visited w.shape)) p.0 (λ low high. refl)) (paired_keeps s goal mine past w new p.0 _ _ good (λ value. going_same goal) (go_paired p w new good quiet h) kept)
-
-pub each_acting_keeps : EachActingKeeps
-each_acting_keeps start w new history e s goal mine past begin_ walk h other there own fits kept =
-    let g = good_start start begin_ in
-    let q = quiet_start start begin_ g in
-    acting_keeps e s goal mine past w new (walk_good history start w g q walk) (walk_quiet history start w g.limits q walk).0 h other there own fits kept
