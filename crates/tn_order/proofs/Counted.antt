@@ -1,5 +1,5 @@
 -- In a machine each thread counted no more sends than steps: this holds of each run of the bag machine, and so of each walk.
-use Rattle.std.proofs.Common.{ℕ, ◌≡◌, ◌≤◌, ◌+◌, ◌%◌, ◌^◌, List, [], ◌∷◌, length, get_or, map, zero, suc, refl, sym, ◌∙◌, ap, subst, inl, inr, arith, cond, IsTrue, Option, Some}
+use Rattle.std.proofs.Common.{ℕ, ◌≡◌, ◌≤◌, List, [], ◌∷◌, get_or, map, zero, suc, refl, sym, ◌∙◌, ap, subst, inl, inr, arith, cond, IsTrue, Some}
 use Rattle.std.proofs.lemmas.Bool.{cases_eq, cond_both, eq-eqb}
 use Rattle.tn_base.specs.declared.event.Event.{Event}
 use Rattle.tn_base.specs.declared.shape.ShapeNumbers.{ShapeNumbers}
@@ -7,7 +7,7 @@ use Rattle.tn_base.specs.Address.{has_thread, place_in_tile, tile_threads}
 use Rattle.tn_base.proofs.TilePlaces.{place_below}
 use Rattle.tn_detect.specs.Notes.{value_of}
 use Rattle.tn_quiet.specs.Law.{IsQuietWorld}
-use Rattle.tn_quiet.proofs.Runs.{event_quiet, walk_quiet}
+use Rattle.tn_quiet.proofs.Runs.{event_quiet}
 use Rattle.tn_rows.specs.Events.{happened}
 use Rattle.tn_rows.specs.PartView.{PartView, TileV, RouterV, LinkV, HostV, DetectorV, AbsentV}
 use Rattle.tn_rows.specs.Runs.{Walk}
@@ -27,14 +27,14 @@ use Rattle.tn_letters.specs.State.{BagState, Program, put}
 use Rattle.tn_letters.specs.Steps.{event_steps}
 use Rattle.tn_letters.specs.Tiles.{part_for, program_of, thread_in, thread_of, tile_in}
 use Rattle.tn_letters.proofs.Calm.{quiet_start}
-use Rattle.tn_letters.proofs.Empty.{Seat, seat}
+use Rattle.tn_letters.proofs.Empty.{seat}
 use Rattle.tn_letters.proofs.GoodParts.{event_good, walk_good}
 use Rattle.tn_letters.proofs.Lift.{Good, GoodTile, tile_on}
 use Rattle.tn_letters.proofs.Meaning.{event_arrives}
 use Rattle.tn_letters.proofs.Settling.{settled_stays}
 use Rattle.tn_letters.proofs.Starts.{good_start}
 use Rattle.tn_letters.proofs.Waiting.{ended_threads, put_beside, sent_threads}
-use Rattle.tn_order.specs.Numbers.{Counts, EveryWalkCounts, IsCounted}
+use Rattle.tn_order.specs.Numbers.{Counts, EveryWalkCounts}
 use Rattle.tn_order.proofs.Numbers.{next_counts}
 
 -- ---- the bag machine

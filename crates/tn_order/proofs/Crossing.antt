@@ -1,5 +1,5 @@
 -- Departures and arrivals keep the order.
-use Rattle.std.proofs.Common.{ℕ, ◌≡◌, ◌≢◌, ◌&&◌, Bool, true, false, cond, refl, sym, ◌∙◌, ap, subst, inl, inr, List, [], ◌∷◌, ◌++◌, length, Option, Some, None, option_map, is_some, IsTrue, unwrap_or}
+use Rattle.std.proofs.Common.{ℕ, ◌≡◌, ◌≢◌, Bool, true, false, cond, refl, sym, ◌∙◌, ap, subst, inl, inr, List, [], ◌∷◌, ◌++◌, length, Option, Some, None, option_map, is_some, IsTrue, unwrap_or}
 use Rattle.std.specs.Prelude.{is_none}
 use Rattle.std.proofs.lemmas.Bool.{cond_both}
 use Rattle.tn_base.specs.declared.event.Event.{Event}
@@ -9,7 +9,6 @@ use Rattle.tn_base.specs.declared.ids.PartId.{PartId}
 use Rattle.tn_base.specs.declared.message.Dest.{Dest}
 use Rattle.tn_base.specs.declared.message.Dest.TheVariants as dest
 use Rattle.tn_base.specs.declared.message.Packet.{Packet}
-use Rattle.tn_base.specs.declared.part.Kind.{Kind}
 use Rattle.tn_base.specs.declared.part.Kind.TheVariants as kind
 use Rattle.tn_base.specs.declared.port.Port.{Port}
 use Rattle.tn_base.specs.declared.port.Port.TheVariants as port
@@ -20,10 +19,10 @@ use Rattle.tn_link.specs.LinkRows.{front_of, put_in, take_from}
 use Rattle.tn_link.specs.LinkView.{LinkView}
 use Rattle.tn_node.specs.declared.node.Node.{Node}
 use Rattle.tn_node.specs.declared.ports.Ports.{Ports}
-use Rattle.tn_node.specs.NodeRows.{depart_row, departed, departed_with, give_row, offered}
+use Rattle.tn_node.specs.NodeRows.{depart_row, departed, give_row, offered}
 use Rattle.tn_node.specs.PortRows.{at, with_at}
 use Rattle.tn_node.specs.SamePacket.{is_packet}
-use Rattle.tn_node.proofs.Changed.{Departs, departs}
+use Rattle.tn_node.proofs.Changed.{departs}
 use Rattle.tn_node.proofs.Given.{given}
 use Rattle.tn_router.specs.declared.state.RouterState.{RouterState}
 use Rattle.tn_router.specs.declared.work.Work.{Work}
@@ -41,7 +40,6 @@ use Rattle.tn_rows.specs.WorldView.{WorldView}
 use Rattle.tn_rows.proofs.Meeting.{mapped, met_rows}
 use Rattle.tn_stamp.specs.declared.entry.Crossing.{Crossing}
 use Rattle.tn_stamp.specs.declared.entry.Crossing.TheVariants as crossing
-use Rattle.tn_tile.specs.declared.state.TileState.{TileState}
 use Rattle.tn_tile.specs.Rows.{with_node}
 use Rattle.tn_tile.specs.TileView.{TileView, now_by, with_now}
 use Rattle.tn_tile.proofs.Steps.{taken}
@@ -49,12 +47,11 @@ use Rattle.tn_ways.specs.Ways.{LeadsBy}
 use Rattle.tn_letters.proofs.Crossings.{put_is, take_is}
 use Rattle.tn_letters.proofs.Lift.{OnPart}
 use Rattle.tn_letters.proofs.Links.{two_parts}
-use Rattle.tn_order.specs.Kept.{IsFor, Kept}
+use Rattle.tn_order.specs.Kept.{Kept}
 use Rattle.tn_order.specs.Net.{IsNet}
-use Rattle.tn_order.specs.Spots.{Crosses, Item, NextBehind, NextInto, NextSpot, Spot, Waits, Works, item_of, items_of, packet_in, queue_items, standing_at, stands_in, way_of}
+use Rattle.tn_order.specs.Spots.{Crosses, NextBehind, NextInto, NextSpot, Waits, Works, item_of, items_of, packet_in, queue_items, standing_at, way_of}
 use Rattle.tn_order.proofs.PartViews.{ports_others, router_out, router_works, tile_out}
-use Rattle.tn_order.proofs.Steps.{Gets, Gives, OfOne, across, back, link_gets, link_gives}
-use Rattle.tn_order.proofs.Views.{OthersOn}
+use Rattle.tn_order.proofs.Steps.{Gets, Gives, across, back, link_gets, link_gives}
 
 -- ---- ports
 

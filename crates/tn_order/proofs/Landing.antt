@@ -1,11 +1,10 @@
 -- A packet that comes to a tile goes on, stands last in the receiver's queue, or is dropped for a receiver that ended.
-use Rattle.std.proofs.Common.{ℕ, ◌+◌, ◌<◌, ◌≡◌, ◌≢◌, ◌==◌, Bool, true, false, cond, refl, sym, ◌∙◌, ap, subst, inl, inr, arith, List, [], ◌∷◌, ◌++◌, length, get_or, set, IsTrue, Option, Some, None, option_map, unwrap_or}
-use Rattle.std.specs.Prelude.{is_none, MatchOption, ◌⊎◌}
+use Rattle.std.proofs.Common.{ℕ, ◌+◌, ◌<◌, ◌≡◌, ◌==◌, Bool, true, false, cond, refl, sym, ◌∙◌, ap, subst, inl, inr, arith, List, [], ◌∷◌, ◌++◌, length, set, IsTrue, Option, Some, None, unwrap_or}
+use Rattle.std.specs.Prelude.{is_none, ◌⊎◌}
 use Rattle.std.specs.Int.{bit_at}
 use Rattle.std.proofs.lemmas.Bool.{cases_eq, eqb-true}
 use Rattle.std.proofs.lemmas.Nat.{mul-le}
 use Rattle.std.proofs.lemmas.Nat.Bits.{bit_at-zero}
-use Rattle.tn_base.specs.declared.ids.TileId.{TileId}
 use Rattle.tn_base.specs.declared.message.Dest.{Dest}
 use Rattle.tn_base.specs.declared.message.Dest.TheVariants as dest
 use Rattle.tn_base.specs.declared.message.Packet.{Packet}
@@ -13,7 +12,7 @@ use Rattle.tn_base.specs.declared.part.Kind.TheVariants as kind
 use Rattle.tn_base.specs.declared.port.Port.{Port}
 use Rattle.tn_base.specs.declared.port.Port.TheVariants as port
 use Rattle.tn_base.specs.declared.shape.ShapeNumbers.{ShapeNumbers}
-use Rattle.tn_base.specs.Address.{has_thread, place_in_tile, tile_of, tile_place, tile_threads}
+use Rattle.tn_base.specs.Address.{has_thread, place_in_tile, tile_place, tile_threads}
 use Rattle.tn_base.specs.Parts.{tile_part}
 use Rattle.tn_base.specs.Shape.{WithinLimits}
 use Rattle.tn_base.specs.Ports.{tile_port}
@@ -24,16 +23,15 @@ use Rattle.tn_node.specs.PortRows.{at, with_at}
 use Rattle.tn_rows.specs.PartView.{TileV}
 use Rattle.tn_rows.specs.WorldView.{WorldView}
 use Rattle.tn_rows.proofs.Meeting.{mapped}
-use Rattle.tn_slots.specs.Pool.{first_free, put_at, queue_at, slot_at}
-use Rattle.tn_slots.specs.WellKept.{Unused, WellKept, times}
+use Rattle.tn_slots.specs.Pool.{first_free, put_at, queue_at}
+use Rattle.tn_slots.specs.WellKept.{WellKept, times}
 use Rattle.tn_slots.proofs.Lists.{bit_cases}
 use Rattle.tn_slots.proofs.Owed.{appended_no, appended_yes}
 use Rattle.tn_slots.proofs.Unused.{first_unused}
 use Rattle.tn_tile.specs.declared.state.TileState.{TileState}
 use Rattle.tn_tile.specs.declared.sender.Sender.{Sender}
 use Rattle.tn_tile.specs.Receivers.{alive_of, receivers}
-use Rattle.tn_tile.specs.Rows.{counted, passed, passed_by, received, sent_on, stored, stored_at, with_node}
-use Rattle.tn_tile.specs.Step.{pending_at}
+use Rattle.tn_tile.specs.Rows.{passed, passed_by, received, sent_on, stored, stored_at, with_node}
 use Rattle.tn_tile.specs.TileView.{TileView, with_now}
 use Rattle.tn_tile.proofs.Steps.{taken}
 use Rattle.tn_letters.proofs.Lift.{GoodTile}
@@ -48,7 +46,8 @@ use Rattle.tn_order.proofs.Steps.{Gets, OfOne}
 
 -- the receiver ended, if it is a thread: it is not among those of the packet that are alive
 abbrev pub IsLost : TileView → Dest → Dest → Type 0
-IsLost v (dest.Thread t) d = bit_at (alive_of v.now.threads (receivers v.plan.shape d)) (place_in_tile v.plan.shape t.0) ≡ 0
+IsLost v (dest.Thread t) d =
+    (tile_port v.plan.tile d ≡ port.Here) × (bit_at (alive_of v.now.threads (receivers v.plan.shape d)) (place_in_tile v.plan.shape t.0) ≡ 0) × (bit_at (receivers v.plan.shape d) (place_in_tile v.plan.shape t.0) ≡ 1) × (tile_port v.plan.tile (dest.Thread t) ≡ port.Here)
 IsLost v dest.Host d = ⊥
 IsLost v (dest.Mask tile mask) d = ⊥
 IsLost v (dest.Key key) d = ⊥
@@ -164,7 +163,7 @@ stays_here (dest.Thread t) w p v s k limits good there here row =
           absurd (ne (ap (λ x. tile_part (tile_place n x)) on ∙ good.part)))
       | inl e ↦ elim (bit_cases alive place) [
         | inl b ↦ Stands Queue (slot_item goal (record { origin = k.origin; number = k.number })) (record { here = e; last = st.yes_in b; others = tile_queue goal w p v s st.but }) (record { origin = refl; number = refl }) (sym (ap (onward p) here)) (inr refl)
-        | inr b ↦ Lost (lost_spots goal w p v s st.but (λ z. st.not_in b)) (λ for. b)
+        | inr b ↦ Lost (lost_spots goal w p v s st.but (λ z. st.not_in b)) (λ for. (here, b, subst (λ m. bit_at (receivers m k.dest) (place_in_tile m t.0) ≡ 1) (sym good.shape) for.receiver, sym (for.port (kind.Tile (record { 0 = v.plan.tile }))) ∙ here))
       ]
     ]
 

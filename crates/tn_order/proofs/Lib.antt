@@ -1,10 +1,14 @@
 pub mod Acting
 pub mod Counted
 pub mod Crossing
+pub mod Dropping
+pub mod Each
 pub mod Keeps
 pub mod Landing
 pub mod Moving
+pub mod Naming
 pub mod Numbers
+pub mod OtherEvents
 pub mod PartViews
 pub mod Passing
 pub mod Rises

@@ -1,5 +1,5 @@
 -- The events that move packets keep the order.
-use Rattle.std.proofs.Common.{ℕ, ◌≡◌, ◌<◌, ◌&&◌, ◌==◌, Bool, true, false, cond, refl, sym, ◌∙◌, ap, subst, inl, inr, arith, List, [], ◌∷◌, IsTrue, Option, Some, None, option_map}
+use Rattle.std.proofs.Common.{ℕ, ◌≡◌, ◌&&◌, Bool, true, refl, sym, ◌∙◌, ap, subst, inl, inr, arith, List, IsTrue, Some}
 use Rattle.std.specs.Prelude.{◌⊎◌}
 use Rattle.std.proofs.lemmas.Bool.{and_parts, eqb-true}
 use Rattle.tn_base.specs.declared.event.Event.{Event}
@@ -11,12 +11,11 @@ use Rattle.tn_base.specs.declared.message.Dest.{Dest}
 use Rattle.tn_base.specs.declared.message.Packet.{Packet}
 use Rattle.tn_base.specs.declared.part.Kind.{Kind}
 use Rattle.tn_base.specs.declared.part.Kind.TheVariants as kind
-use Rattle.tn_base.specs.declared.shape.ShapeNumbers.{ShapeNumbers}
-use Rattle.tn_base.specs.Address.{has_thread, place_in_tile, tile_of}
-use Rattle.tn_base.specs.Parts.{kind_of, part_count}
+use Rattle.tn_base.specs.Address.{has_thread, place_in_tile}
+use Rattle.tn_base.specs.Parts.{kind_of}
 use Rattle.tn_link.specs.LinkRows.{front_of}
 use Rattle.tn_link.specs.LinkView.{LinkView}
-use Rattle.tn_quiet.proofs.Machines.{AtOne, AtTwo, by_test, by_tests, by_thread}
+use Rattle.tn_quiet.proofs.Machines.{by_test, by_tests, by_thread}
 use Rattle.tn_router.specs.RouterView.{RouterView, now_by as router_now_by, with_now as router_with_now}
 use Rattle.tn_router.specs.Rows.{route_row}
 use Rattle.tn_rows.specs.Events.{Met, after, crossing_of, happened, meets, with_both, with_part}
@@ -31,7 +30,7 @@ use Rattle.tn_tile.specs.TileView.{TileView, now_by, with_now}
 use Rattle.tn_tile.proofs.Steps.{taken}
 use Rattle.tn_letters.proofs.Calm.{quiet_start}
 use Rattle.tn_letters.proofs.GoodParts.{walk_good}
-use Rattle.tn_letters.proofs.Lift.{Good, GoodRouter, GoodTile, OnPart, StandsAt, part_on, stands_on, tile_on}
+use Rattle.tn_letters.proofs.Lift.{Good, GoodRouter, OnPart, StandsAt, part_on, stands_on, tile_on}
 use Rattle.tn_letters.proofs.Simulate.{Place}
 use Rattle.tn_letters.proofs.Starts.{good_start}
 use Rattle.tn_letters.proofs.Walks.{on_read}
@@ -87,14 +86,14 @@ stands_as_link (kind.Tile t) y s = absurd s
 stands_as_link (kind.Router b) y s = absurd s
 stands_as_link kind.Detector y s = absurd s
 
-from_link : (p : ℕ) (k : Kind) → leads_from p k ≡ true → (from : PartId) × (onto : PartId) × (k ≡ kind.Link from onto)
+pub from_link : (p : ℕ) (k : Kind) → leads_from p k ≡ true → (from : PartId) × (onto : PartId) × (k ≡ kind.Link from onto)
 from_link p (kind.Link from onto) e = (from, onto, refl)
 from_link p kind.Host e = cc e
 from_link p (kind.Tile t) e = cc e
 from_link p (kind.Router b) e = cc e
 from_link p kind.Detector e = cc e
 
-to_link : (p : ℕ) (k : Kind) → leads_to p k ≡ true → (from : PartId) × (onto : PartId) × (k ≡ kind.Link from onto) × (onto.0 ≡ p)
+pub to_link : (p : ℕ) (k : Kind) → leads_to p k ≡ true → (from : PartId) × (onto : PartId) × (k ≡ kind.Link from onto) × (onto.0 ≡ p)
 to_link p (kind.Link from onto) e = (from, onto, refl, eqb-true onto.0 p e)
 to_link p kind.Host e = cc e
 to_link p (kind.Tile t) e = cc e
@@ -102,7 +101,7 @@ to_link p (kind.Router b) e = cc e
 to_link p kind.Detector e = cc e
 
 -- the part to which a link leads is no link
-no_link : {A : Type 0} (w : WorldView) (p q : ℕ) (y : LinkView) (from onto : PartId) → Good w → OnPart w p (LinkV y) → kind_of w.shape q ≡ kind.Link from onto → onto.0 ≡ p → A
+pub no_link : {A : Type 0} (w : WorldView) (p q : ℕ) (y : LinkView) (from onto : PartId) → Good w → OnPart w p (LinkV y) → kind_of w.shape q ≡ kind.Link from onto → onto.0 ≡ p → A
 no_link w p q y from onto good on link at =
     let own = stands_as_link (kind_of w.shape p) y (stands_on w p (LinkV y) good on) in
     let low = (good.leads q from onto link).onto_visited in
@@ -111,7 +110,7 @@ no_link w p q y from onto good on link at =
 
 -- ---- a departure
 
-departs_part : (s : ℕ) (goal : Dest) (mine : ℕ → ℕ → Bool) (w : WorldView) (p q : ℕ) (low : PartView) (x : LinkView) (m : Met) (here there : PartId) (sent gone : List ℕ) → IsNet (way_of w.shape s goal) → Good w → OnPart w p low → OnPart w q (LinkV x) → there.0 ≡ q → IsTrue (leads_from p (kind_of w.shape q)) →
+pub departs_part : (s : ℕ) (goal : Dest) (mine : ℕ → ℕ → Bool) (w : WorldView) (p q : ℕ) (low : PartView) (x : LinkView) (m : Met) (here there : PartId) (sent gone : List ℕ) → IsNet (way_of w.shape s goal) → Good w → OnPart w p low → OnPart w q (LinkV x) → there.0 ≡ q → IsTrue (leads_from p (kind_of w.shape q)) →
     meets (event.Depart here there) low (LinkV x) ≡ Some m → Kept w.shape (way_of w.shape s goal) goal mine (standing_at goal w) sent gone → Kept w.shape (way_of w.shape s goal) goal mine (standing_at goal (with_both w p q m)) sent gone
 departs_part s goal mine w p q (TileV v) x m here there sent gone is good on off at from row kept = tile_departs s goal mine w p q v x m here there sent gone is on off (tile_on w p v good on).shape at from row kept
 departs_part s goal mine w p q (RouterV v) x m here there sent gone is good on off at from row kept =
@@ -135,7 +134,7 @@ depart_keeps s goal mine w new here there sent gone good h kept =
 
 -- ---- an arrival
 
-arrives_part : (s : ℕ) (goal : Dest) (mine : ℕ → ℕ → Bool) (w : WorldView) (p q : ℕ) (low : PartView) (x : LinkView) (m : Met) (there here from onto : PartId) (sent gone : List ℕ) → IsNet (way_of w.shape s goal) → Good w → IsReceiver w.shape goal → IsFor w.shape goal goal → OnPart w p low → OnPart w q (LinkV x) → there.0 ≡ q →
+pub arrives_part : (s : ℕ) (goal : Dest) (mine : ℕ → ℕ → Bool) (w : WorldView) (p q : ℕ) (low : PartView) (x : LinkView) (m : Met) (there here from onto : PartId) (sent gone : List ℕ) → IsNet (way_of w.shape s goal) → Good w → IsReceiver w.shape goal → IsFor w.shape goal goal → OnPart w p low → OnPart w q (LinkV x) → there.0 ≡ q →
     kind_of w.shape q ≡ kind.Link from onto → onto.0 ≡ p → meets (event.Arrive there here) low (LinkV x) ≡ Some m → Kept w.shape (way_of w.shape s goal) goal mine (standing_at goal w) sent gone → Keeps s goal mine w sent gone (with_both w p q m)
 arrives_part s goal mine w p q (TileV v) x m there here from onto sent gone is good receiver self on off at link to row kept =
     let t = stands_tile (kind_of w.shape p) v (stands_on w p (TileV v) good on) in
@@ -172,7 +171,7 @@ arrive_keeps s goal mine w new there here sent gone good receiver self h kept =
 
 -- ---- a Route
 
-routes_part : (s : ℕ) (goal : Dest) (mine : ℕ → ℕ → Bool) (w : WorldView) (p : ℕ) (part behind : PartView) (q : PartId) (sent gone : List ℕ) → IsNet (way_of w.shape s goal) → Good w → OnPart w p part → after (event.Route q) crossing.None part ≡ Some behind →
+pub routes_part : (s : ℕ) (goal : Dest) (mine : ℕ → ℕ → Bool) (w : WorldView) (p : ℕ) (part behind : PartView) (q : PartId) (sent gone : List ℕ) → IsNet (way_of w.shape s goal) → Good w → OnPart w p part → after (event.Route q) crossing.None part ≡ Some behind →
     Kept w.shape (way_of w.shape s goal) goal mine (standing_at goal w) sent gone → Kept w.shape (way_of w.shape s goal) goal mine (standing_at goal (with_part w p behind)) sent gone
 routes_part s goal mine w p (RouterV v) behind q sent gone is good on row kept =
     let a = mapped RouterV (router_now_by v (route_row v.plan v.now)) behind row in
@@ -188,7 +187,7 @@ routes_part s goal mine w p AbsentV behind q sent gone is good on row kept = cc 
 -- ---- a delivery
 
 -- the thread of a delivery is at its place on the tile
-here_is : (w : WorldView) (p a : ℕ) (v : TileView) → Good w → OnPart w p (TileV v) → is_here v.plan a ≡ true → Place w p v a (place_in_tile v.plan.shape a)
+pub here_is : (w : WorldView) (p a : ℕ) (v : TileView) → Good w → OnPart w p (TileV v) → is_here v.plan a ≡ true → Place w p v a (place_in_tile v.plan.shape a)
 here_is w p a v good on here =
     let t = tile_on w p v good on in
     let parts = and_parts _ _ here in

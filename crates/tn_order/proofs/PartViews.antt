@@ -1,24 +1,21 @@
 -- What a change of one field of a part changes of the spots of the part.
-use Rattle.std.proofs.Common.{ℕ, ◌≡◌, ◌≢◌, refl, sym, ◌∙◌, ap, subst, inl, inr, List, [], ◌∷◌, ◌++◌, map, length, get_or, set, ◌<◌, Option, Some, None}
+use Rattle.std.proofs.Common.{ℕ, ◌≡◌, ◌≢◌, refl, ap, inl, inr, Option}
 use Rattle.std.specs.Prelude.{◌⊎◌}
 use Rattle.std.proofs.lemmas.Bool.{cases_eq}
-use Rattle.std.proofs.lemmas.List.{get_or-set_same, get_or-set_other}
 use Rattle.tn_base.specs.declared.message.Dest.{Dest}
-use Rattle.tn_base.specs.declared.message.Packet.{Packet}
 use Rattle.tn_base.specs.declared.port.Port.{Port}
-use Rattle.tn_base.specs.declared.port.Port.TheVariants as port
 use Rattle.tn_link.specs.LinkView.{LinkView}
 use Rattle.tn_node.specs.declared.ports.Ports.{Ports}
 use Rattle.tn_node.specs.PortRows.{at, with_at}
 use Rattle.tn_node.proofs.PortLaws.{each_set}
 use Rattle.tn_router.specs.declared.state.RouterState.{RouterState}
 use Rattle.tn_router.specs.RouterView.{RouterView, with_now as router_with_now}
-use Rattle.tn_rows.specs.PartView.{PartView, TileV, RouterV, LinkV}
+use Rattle.tn_rows.specs.PartView.{TileV, RouterV, LinkV}
 use Rattle.tn_rows.specs.WorldView.{WorldView}
 use Rattle.tn_tile.specs.declared.state.TileState.{TileState}
 use Rattle.tn_tile.specs.Step.{pending_at}
 use Rattle.tn_tile.specs.TileView.{TileView, with_now}
-use Rattle.tn_order.specs.Spots.{Item, Spot, Pending, Waits, Works, Crosses, Queue, item_of, items_of, packet_in, queue_items, spot_part, stands_in}
+use Rattle.tn_order.specs.Spots.{Spot, Pending, Waits, Works, Crosses, Queue, items_of, packet_in, queue_items, stands_in}
 use Rattle.tn_order.proofs.Views.{OthersOn}
 
 -- a port has its new value, and each other port the value that it had

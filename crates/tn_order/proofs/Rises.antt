@@ -1,14 +1,10 @@
 -- In each run of a machine from its start the sends of each origin have rising numbers.
-use Rattle.std.proofs.Common.{ℕ, ◌≡◌, ◌<◌, ◌^◌, List, [], sym, ap, subst, arith, IsTrue}
-use Rattle.tn_base.specs.declared.event.Event.{Event}
+use Rattle.std.proofs.Common.{[], sym, ap, subst, arith, IsTrue}
 use Rattle.tn_base.specs.Address.{has_thread}
-use Rattle.tn_rows.specs.WorldView.{WorldView}
 use Rattle.tn_thread.specs.declared.thread.Thread.{Thread}
-use Rattle.tn_letters.specs.Settled.{settled}
 use Rattle.tn_letters.specs.Steps.{bag_of}
 use Rattle.tn_letters.specs.Standing.{bag_at}
-use Rattle.tn_letters.specs.State.{Program}
-use Rattle.tn_letters.specs.Tiles.{program_of, thread_of}
+use Rattle.tn_letters.specs.Tiles.{program_of}
 use Rattle.tn_letters.proofs.Calm.{quiet_start}
 use Rattle.tn_letters.proofs.GoodParts.{walk_good}
 use Rattle.tn_letters.proofs.Lift.{Good}

@@ -1,19 +1,18 @@
 -- A Route keeps the order.
-use Rattle.std.proofs.Common.{ℕ, ◌≡◌, ◌≢◌, ◌<◌, ◌+◌, Bool, true, false, cond, ltb, refl, sym, ◌∙◌, ap, subst, inl, inr, List, [], ◌∷◌, ◌++◌, get_or, length, Option, Some, None, option_map, is_some, unwrap_or}
+use Rattle.std.proofs.Common.{ℕ, ◌≡◌, ◌+◌, Bool, true, false, ltb, refl, sym, ◌∙◌, ap, subst, inl, inr, List, [], ◌∷◌, ◌++◌, get_or, length, Option, Some, None, option_map, is_some}
 use Rattle.std.specs.Prelude.{is_none, MatchOption}
 use Rattle.std.proofs.lemmas.Bool.{cases_Bool, cases_eq, cond_both}
 use Rattle.tn_base.specs.declared.ids.Board.{Board}
 use Rattle.tn_base.specs.declared.message.Dest.{Dest}
 use Rattle.tn_base.specs.declared.message.Dest.TheVariants as dest
 use Rattle.tn_base.specs.declared.message.Packet.{Packet}
-use Rattle.tn_base.specs.declared.part.Kind.{Kind}
 use Rattle.tn_base.specs.declared.part.Kind.TheVariants as kind
 use Rattle.tn_base.specs.declared.port.Port.{Port}
 use Rattle.tn_base.specs.declared.port.Port.TheVariants as port
 use Rattle.tn_base.specs.declared.shape.ShapeNumbers.{ShapeNumbers}
 use Rattle.tn_base.specs.Message.{has_packet}
 use Rattle.tn_base.specs.Parts.{kind_of}
-use Rattle.tn_base.specs.Ports.{board_x, board_y, port_from, port_of, router_port, toward}
+use Rattle.tn_base.specs.Ports.{board_x, board_y, port_from, router_port, toward}
 use Rattle.tn_keys.specs.declared.record.RouteRec.{RouteRec}
 use Rattle.tn_keys.specs.declared.record.RouteRec.TheVariants.{Urm1, Urm2, Rr, Mrm, Ind}
 use Rattle.tn_keys.specs.Copies.{keyed, neighbour, tile_address}
@@ -27,7 +26,7 @@ use Rattle.tn_router.specs.declared.moves.Sent.{Sent}
 use Rattle.tn_router.specs.declared.state.RouterState.{RouterState}
 use Rattle.tn_router.specs.declared.work.Work.{Work}
 use Rattle.tn_router.specs.Kept.{is_keyed}
-use Rattle.tn_router.specs.Moves.{behind, copy_by, key_move, move_of, move_to, record_move, sent_if, way_of as way_to, whole_move}
+use Rattle.tn_router.specs.Moves.{behind, copy_by, key_move, move_to, record_move, sent_if, way_of as way_to, whole_move}
 use Rattle.tn_router.specs.Rest.{at_beat, beats_from, entered, first_full, from_beat, next_record, next_work}
 use Rattle.tn_router.specs.RouterView.{RouterView, with_now}
 use Rattle.tn_router.specs.Rows.{carried, has_room, route_row, with_sent}
@@ -36,14 +35,14 @@ use Rattle.tn_rows.specs.PartView.{PartView, RouterV}
 use Rattle.tn_rows.specs.WorldView.{WorldView}
 use Rattle.tn_rows.proofs.Meeting.{mapped}
 use Rattle.tn_letters.proofs.Lift.{OnPart}
-use Rattle.tn_letters.proofs.Moves.{MovesSo, moves_so}
-use Rattle.tn_order.specs.Kept.{AllFor, IsFor, Kept, world_of}
+use Rattle.tn_letters.proofs.Moves.{moves_so}
+use Rattle.tn_order.specs.Kept.{AllFor, Kept, world_of}
 use Rattle.tn_order.specs.Net.{Net, IsNet, Rest}
 use Rattle.tn_order.specs.Spots.{Crosses, Item, Pending, Queue, Spot, Waits, Works, item_of, items_of, numbers, packet_in, spot_part, standing_at, stands_in, way_of}
 use Rattle.tn_order.proofs.Crossing.{put_there, taken_away}
 use Rattle.tn_order.proofs.Keeps.{keeps}
 use Rattle.tn_order.proofs.PartViews.{ports_others, router_out, router_works}
-use Rattle.tn_order.proofs.Steps.{Gets, Gives, within_part}
+use Rattle.tn_order.proofs.Steps.{within_part}
 use Rattle.tn_order.proofs.Views.{at_part, beside, number_no, rests, was_part}
 
 -- ---- changes of what is not meant

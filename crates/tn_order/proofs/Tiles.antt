@@ -1,6 +1,6 @@
 -- Arrivals at tiles and deliveries keep the order, or a letter is dropped for the receiver.
-use Rattle.std.proofs.Common.{ℕ, ◌≡◌, ◌≢◌, ◌<◌, ◌&&◌, Bool, true, false, cond, refl, sym, ◌∙◌, ap, subst, inl, inr, List, [], ◌∷◌, ◌++◌, length, get_or, set, IsTrue, Option, Some, None, option_map, unwrap_or}
-use Rattle.std.specs.Prelude.{◌⊎◌}
+use Rattle.std.proofs.Common.{ℕ, ◌≡◌, ◌<◌, ◌&&◌, Bool, true, cond, refl, sym, ◌∙◌, ap, subst, inl, inr, List, [], ◌∷◌, length, set, Option, Some, None, option_map}
+use Rattle.std.specs.Prelude.{IsTrue, MatchOption, ◌⊎◌}
 use Rattle.std.proofs.lemmas.Bool.{cases_Bool, cases_eq}
 use Rattle.std.proofs.lemmas.List.{get_or-set_other, get_or-set_same}
 use Rattle.tn_base.specs.declared.event.Event.TheVariants as event
@@ -9,7 +9,6 @@ use Rattle.tn_base.specs.declared.ids.TileId.{TileId}
 use Rattle.tn_base.specs.declared.message.Dest.{Dest}
 use Rattle.tn_base.specs.declared.message.Dest.TheVariants as dest
 use Rattle.tn_base.specs.declared.message.Packet.{Packet}
-use Rattle.tn_base.specs.declared.part.Kind.{Kind}
 use Rattle.tn_base.specs.declared.part.Kind.TheVariants as kind
 use Rattle.tn_base.specs.declared.shape.ShapeNumbers.{ShapeNumbers}
 use Rattle.tn_base.specs.Message.{has_packet}
@@ -23,9 +22,9 @@ use Rattle.tn_rows.specs.Events.{Met, after, crossing_of, meets, with_both, with
 use Rattle.tn_rows.specs.PartView.{PartView, TileV, LinkV}
 use Rattle.tn_rows.specs.WorldView.{WorldView}
 use Rattle.tn_rows.proofs.Meeting.{mapped}
-use Rattle.tn_stamp.specs.declared.entry.Crossing.{Crossing}
 use Rattle.tn_stamp.specs.declared.entry.Crossing.TheVariants as crossing
 use Rattle.tn_tile.specs.declared.state.TileState.{TileState}
+use Rattle.tn_tile.specs.Kept.{IsPacket}
 use Rattle.tn_tile.specs.Rows.{accept_row, accepted, came, can_count, delivered_from, passed}
 use Rattle.tn_tile.specs.Step.{pending_at}
 use Rattle.tn_tile.specs.TileView.{TileView, now_by, with_now}
@@ -47,7 +46,7 @@ use Rattle.tn_order.proofs.Landing.{IsLost, Landing, Lost, Stands, lands}
 use Rattle.tn_order.proofs.PartViews.{tile_pending}
 use Rattle.tn_order.proofs.Passing.{first_for, part_with, stay}
 use Rattle.tn_order.proofs.SpotNet.{not_pending}
-use Rattle.tn_order.proofs.Steps.{Gets, Gives, OfOne, back, gives_takes, link_gives, on_mid, within_part}
+use Rattle.tn_order.proofs.Steps.{Gets, Gives, back, gives_takes, link_gives, on_mid, within_part}
 use Rattle.tn_order.proofs.Views.{at_part, beside, was_part}
 
 -- the order is kept, and what is gone is the same; or the letter for the receiver is dropped, and is gone
@@ -123,16 +122,17 @@ arrives_by s goal mine w p q v x y new k t from onto sent gone is self on off li
     (stay w.shape (way_of w.shape s goal) goal mine (standing_at goal w) (standing_at goal mid) sent gone is still kept)
 
 -- what the tile takes is a packet that it passes on
-accepted_so : (v : TileView) (k : Packet) (new : TileState) → accept_row v.plan k v.now ≡ Some new → (mid : TileState) × (passed v.plan k v.now ≡ Some mid) × (came mid ≡ new)
+accepted_so : (v : TileView) (k : Packet) (new : TileState) → accept_row v.plan k v.now ≡ Some new → (mid : TileState) × (passed v.plan k v.now ≡ Some mid) × (came mid ≡ new) × IsTrue (has_packet v.plan.shape k)
 accepted_so v k new row =
     let yes = taken (can_count v.now && can_arrive v.now.node) (option_map came (accepted v.plan k v.now)) new row in
     let m = mapped came (accepted v.plan k v.now) new yes.1 in
     let has = taken (has_packet v.plan.shape k) (passed v.plan k v.now) m.0 m.1 in
-    (m.0, has.1, m.2)
+    (m.0, has.1, m.2, has.0)
 
 pub record Arrived (s : ℕ) (goal : Dest) (mine : ℕ → ℕ → Bool) (w new : WorldView) (v : TileView) (x : LinkView) (sent gone : List ℕ) : Type 0 where
   pub packet : Packet
   pub front : front_of x ≡ Some packet
+  pub fits : IsTrue (has_packet v.plan.shape packet)
   pub outcome : Outcome w.shape (way_of w.shape s goal) goal mine (standing_at goal new) sent gone packet (IsLost v goal packet.dest)
 
 pub tile_arrives : (s : ℕ) (goal : Dest) (mine : ℕ → ℕ → Bool) (w : WorldView) (p q : ℕ) (v : TileView) (x : LinkView) (m : Met) (there here from onto : PartId) (t : TileId) (sent gone : List ℕ) → IsNet (way_of w.shape s goal) → IsFor w.shape goal goal → IsReceiver w.shape goal → Good w → OnPart w p (TileV v) → OnPart w q (LinkV x) →
@@ -153,6 +153,7 @@ tile_arrives s goal mine w p q v x m there here from onto t sent gone is self re
     record {
       packet = k.0;
       front = k.1;
+      fits = so.3;
       outcome = subst (λ (u : WorldView). Outcome w.shape (way_of w.shape s goal) goal mine (standing_at goal u) sent gone k.0 (IsLost v goal k.0.dest)) new
           (arrives_by s goal mine w p q v x y.0 so.0 k.0 t from onto sent gone is self on off link at_part tile at (take_is k.0 x y.0 k.1 took.1) (lands goal w p v so.0 k.0 good.limits (tile_on w p v good on) receiver so.1) kept);
     }
@@ -160,7 +161,7 @@ tile_arrives s goal mine w p q v x m there here from onto t sent gone is self re
 -- ---- a delivery
 
 -- the tile after its thread's packet is taken up
-abbrev taken_up : TileView → ℕ → TileView
+abbrev pub taken_up : TileView → ℕ → TileView
 taken_up v k = with_now v (record v.now { pending = set v.now.pending k None })
 
 up_queue : (goal : Dest) (v : TileView) (k : ℕ) → queue_items goal (taken_up v k) ≡ queue_items goal v
@@ -200,6 +201,7 @@ delivers_by s goal mine w p k v new packet t sent gone is self on tile at within
 pub record Delivered (s : ℕ) (goal : Dest) (mine : ℕ → ℕ → Bool) (w new : WorldView) (v : TileView) (k : ℕ) (sent gone : List ℕ) : Type 0 where
   pub packet : Packet
   pub there : pending_at v.now k ≡ Some packet
+  pub fits : IsTrue (has_packet v.plan.shape packet)
   pub outcome : Outcome w.shape (way_of w.shape s goal) goal mine (standing_at goal new) sent gone packet (IsLost (taken_up v k) goal packet.dest)
 
 delivers_from : (s : ℕ) (goal : Dest) (mine : ℕ → ℕ → Bool) (w : WorldView) (p a k : ℕ) (v : TileView) (new : TileState) (t : TileId) (o : Option Packet) (sent gone : List ℕ) → IsNet (way_of w.shape s goal) → IsFor w.shape goal goal → IsReceiver w.shape goal → Place w p v a k → kind_of w.shape p ≡ kind.Tile t → v.plan.tile ≡ t.0 →
@@ -212,6 +214,7 @@ delivers_from s goal mine w p a k v new t (Some packet) sent gone is self receiv
     record {
       packet = packet;
       there = there;
+      fits = subst (λ (x : Option Packet). MatchOption x (Unit {0}) (IsPacket v.plan.shape)) there (good.shaped.fits.pending.each k);
       outcome = delivers_by s goal mine w p k v new packet t sent gone is self c.on tile at z.pending there (lands goal w p (taken_up v k) new packet c.good.limits up receiver row) kept;
     }
 

@@ -1,5 +1,5 @@
 -- A step of a thread keeps the order.
-use Rattle.std.proofs.Common.{ℕ, ◌≡◌, ◌≢◌, ◌<◌, ◌==◌, Bool, true, false, refl, sym, ◌∙◌, ap, subst, inl, inr, List, [], ◌∷◌, ◌++◌, map, get_or, set, length, append-nil, ◌-◌, cond, arith, IsTrue, Option, Some, None, is_some, unwrap_or}
+use Rattle.std.proofs.Common.{ℕ, ◌≡◌, ◌≢◌, ◌<◌, Bool, true, refl, sym, ◌∙◌, ap, subst, inl, inr, List, [], ◌∷◌, ◌++◌, map, get_or, set, length, append-nil, ◌-◌, cond, arith, IsTrue, Option, Some, None, is_some, unwrap_or}
 use Rattle.std.specs.Prelude.{is_none}
 use Rattle.std.specs.List.{flat_map}
 use Rattle.std.proofs.lemmas.Bool.{cases_Bool, cases_eq, ne_eqb}
@@ -22,7 +22,6 @@ use Rattle.tn_rows.specs.WorldView.{WorldView}
 use Rattle.tn_slots.specs.Pool.{queue_at, taken, taken_from}
 use Rattle.tn_slots.specs.PoolModel.{PoolModel}
 use Rattle.tn_slots.specs.Queues.{first_of}
-use Rattle.tn_tile.specs.declared.sender.Sender.{Sender}
 use Rattle.tn_tile.specs.declared.state.TileState.{TileState}
 use Rattle.tn_tile.specs.Step.{acted, can_step, packet_of, pending_at, step_at_place, thread_at, with_thread}
 use Rattle.tn_tile.specs.TileView.{TileView, with_now}
@@ -32,17 +31,18 @@ use Rattle.tn_letters.specs.Steps.{after_step, dropped_by, first_letter, queued,
 use Rattle.tn_letters.specs.Tiles.{letter_in, sender_at}
 use Rattle.tn_letters.proofs.Lift.{GoodTile, OnPart, other_place, part_is, tile_on}
 use Rattle.tn_letters.proofs.Simulate.{Place, address_is, op_fits, sizes}
+use Rattle.tn_order.specs.Acting.{SendFits}
 use Rattle.tn_order.specs.Acts.{Act, Sent, Handed, Dropped, sent_with}
 use Rattle.tn_order.specs.History.{behind, gone_of, receiver_of, sent_of, step_acts, step_ends}
 use Rattle.tn_order.specs.Kept.{IsFor, Kept}
 use Rattle.tn_order.specs.Moving.{IsReceiver}
 use Rattle.tn_order.specs.Net.{In, IsNet}
-use Rattle.tn_order.specs.Spots.{Crosses, Item, Pending, Queue, Spot, Waits, Works, begins, item_of, items_of, numbers, queue_items, queue_part, slot_item, spot_part, standing_at, stands_in, way_of}
+use Rattle.tn_order.specs.Spots.{Crosses, Item, Pending, Queue, Spot, Waits, Works, begins, items_of, numbers, queue_items, queue_part, slot_item, spot_part, standing_at, stands_in, way_of}
 use Rattle.tn_order.specs.Views.{Takes}
 use Rattle.tn_order.proofs.Acting.{dropped_in, gone_adds, gone_later, gone_stays, gone_step, more_gone, sent_adds, sent_stays}
 use Rattle.tn_order.proofs.PartViews.{tile_pending, tile_queue}
 use Rattle.tn_order.proofs.Passing.{begin, clear, part_with, stay}
-use Rattle.tn_order.proofs.Stamps.{nobody, stamps}
+use Rattle.tn_order.proofs.Stamps.{stamps}
 use Rattle.tn_order.proofs.Steps.{Gets, Gives, gets_puts, gives_takes}
 use Rattle.tn_order.proofs.Tiles.{lift_same_on}
 use Rattle.tn_order.proofs.Views.{OthersOn, at_part, lift_takes}
@@ -237,8 +237,7 @@ kills_by s goal mine past w p a k v new is c pending node queues senders (Own t 
 -- what a step needs that sends
 pub record SendsRight (s : ℕ) (goal : Dest) (mine : ℕ → ℕ → Bool) (past : List Act) (w : WorldView) (a number : ℕ) (o : Op) : Type 0 where
   pub own : (t n : ℕ) → mine t n ≡ true → t ≡ s
-  pub right : (to : Dest) (bytes : List ℕ) → o ≡ op.Send to bytes → mine a number ≡ true → IsFor w.shape goal to
-  pub above : mine a number ≡ true → (m : ℕ) → In m (sent_of mine past) → m < number
+  pub right : (to : Dest) (bytes : List ℕ) → o ≡ op.Send to bytes → mine a number ≡ true → SendFits w.shape goal mine past number to
 
 abbrev pub acts_by : ℕ → ℕ → TileView → Op → List Act
 acts_by a k v o = sent_with a (thread_at v.now k).sends o ++ flat_map step_ends (step_by a (seen_at v k) (first_letter v k) o ∷ dropped_by (queued v k) o)
@@ -252,7 +251,7 @@ step_by_op s goal mine past w p a k v op.None is there c can e sends kept = stay
 step_by_op s goal mine past w p a k v (op.Free slot) is there c can e sends kept = stays_so s goal mine past w p v (next v k (op.Free slot)) is c.on (record { pending = refl; node = refl; queue = λ z. queue_kept goal v (next v k (op.Free slot)) refl refl }) kept
 step_by_op s goal mine past w p a k v (op.Idle vote) is there c can e sends kept = stays_so s goal mine past w p v (next v k (op.Idle vote)) is c.on (record { pending = refl; node = refl; queue = λ z. queue_kept goal v (next v k (op.Idle vote)) refl refl }) kept
 step_by_op s goal mine past w p a k v (op.Trap why) is there c can e sends kept = stays_so s goal mine past w p v (next v k (op.Trap why)) is c.on (record { pending = refl; node = refl; queue = λ z. queue_kept goal v (next v k (op.Trap why)) refl refl }) kept
-step_by_op s goal mine past w p a k v (op.Send to bytes) is there c can e sends kept = sends_so s goal mine past w p a k v to bytes is sends.own c can e (sends.right to bytes refl) sends.above kept
+step_by_op s goal mine past w p a k v (op.Send to bytes) is there c can e sends kept = sends_so s goal mine past w p a k v to bytes is sends.own c can e (λ meant. (sends.right to bytes refl meant).for) (λ meant. (sends.right to bytes refl meant).above) kept
 step_by_op s goal mine past w p a k v op.Hand is there c can e sends kept =
     let f = hands_first v k (queue_at v.now.pool k) refl (op_fits v k op.Hand can e) in
     let same : first_letter v k ≡ letter_in v k f.slot = ap (λ q. letter_in v k (unwrap_or (first_of q) 0)) f.is in

@@ -1,5 +1,5 @@
 -- Changes of spots as changes of the world of one sender and one receiver.
-use Rattle.std.proofs.Common.{ℕ, suc, ◌+◌, ◌<◌, ◌≡◌, ◌≢◌, Bool, true, false, cond, refl, sym, ◌∙◌, ap, subst, inl, inr, arith, List, [], ◌∷◌, ◌++◌, length, get_or, set, append-nil}
+use Rattle.std.proofs.Common.{ℕ, ◌<◌, ◌≡◌, ◌≢◌, Bool, true, false, cond, refl, sym, ◌∙◌, ap, inl, inr, arith, List, [], ◌∷◌, ◌++◌, length, get_or, set, append-nil}
 use Rattle.std.specs.Prelude.{◌⊎◌}
 use Rattle.std.proofs.lemmas.Bool.{cases_eq}
 use Rattle.std.proofs.lemmas.List.{get_or-set_same, get_or-set_other}
@@ -7,10 +7,9 @@ use Rattle.tn_base.specs.declared.message.Dest.{Dest}
 use Rattle.tn_rows.specs.Events.{with_part}
 use Rattle.tn_rows.specs.PartView.{PartView, AbsentV}
 use Rattle.tn_rows.specs.WorldView.{WorldView}
-use Rattle.tn_order.specs.Net.{Net, In, World, Sends, Moves, Leaves, Clears, Rests, Change, Send, Move, Leave, Clear, Rest, Does}
-use Rattle.tn_order.specs.Spots.{Item, Spot, numbers, seen, spot_part, standing_at, stands_in}
+use Rattle.tn_order.specs.Net.{Net, In, World, Sends, Moves, Leaves, Rests}
+use Rattle.tn_order.specs.Spots.{Item, Spot, numbers, spot_part, standing_at, stands_in}
 use Rattle.tn_order.specs.Views.{Takes, Puts}
-use Rattle.tn_order.proofs.Keeps.{cast}
 
 -- ---- numbers
 

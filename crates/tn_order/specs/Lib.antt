@@ -1,4 +1,6 @@
+pub mod Acting
 pub mod Acts
+pub mod Each
 pub mod History
 pub mod Kept
 pub mod Law

@@ -1,5 +1,5 @@
 -- The spots at which the letters for one receiver stand, and the one way from spot to spot.
-use Rattle.std.specs.Prelude.{ℕ, ◌≡◌, ◌-◌, ◌==◌, ◌&&◌, Bool, List, [], ◌∷◌, map, Option, Some, None, option_map, slice_index_or, if◌then◌else◌}
+use Rattle.std.specs.Prelude.{ℕ, ◌≡◌, ◌-◌, ◌==◌, Bool, List, [], ◌∷◌, map, Option, Some, None, slice_index_or, if◌then◌else◌}
 use Rattle.tn_base.specs.declared.message.Dest.{Dest}
 use Rattle.tn_base.specs.declared.message.Dest.TheVariants as dest
 use Rattle.tn_base.specs.declared.message.Packet.{Packet}

@@ -3,6 +3,7 @@
 ghost use Rattle.std.specs.Prelude.{ℕ};
 ghost use Rattle.tn_base.specs.declared.message.Dest.{Dest};
 ghost use Rattle.tn_order.specs.Acts.{EveryRunNumbersRise};
+ghost use Rattle.tn_order.specs.Each.{EachEventKeeps};
 ghost use Rattle.tn_order.specs.Law.{EachChangeKeeps, EarlierIsGone};
 ghost use Rattle.tn_order.specs.Moving.{EachMovingKeeps};
 ghost use Rattle.tn_order.specs.Net.{IsNet};
@@ -41,4 +42,11 @@ pub fn law_rising()
 /// numbers of the sender are meant. At most one letter is dropped, and that letter is meant.
 pub fn law_moving()
     ensures { EachMovingKeeps }
+{}
+
+/// Each event of a machine keeps the letters of one sender for one receiver in order, by what the event sends, hands and drops. Whichever
+/// numbers of the sender are meant, each send that is meant has to be for the receiver and to have a number above all that are meant and
+/// were sent before.
+pub fn law_each()
+    ensures { EachEventKeeps }
 {}

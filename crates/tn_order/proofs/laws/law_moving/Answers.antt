@@ -1,5 +1,4 @@
 use Rattle.tn_order.proofs.Moving.{each_moving_keeps}
-use Rattle.tn_order.proofs.Turning.{step_keeps}
 use Rattle.tn_order.proofs.laws.law_moving.Goals as goal
 
 pub returns : goal.returns
