@@ -1,10 +1,10 @@
 //! A stamped part at its place: each event of its journal is on that place.
 
-ghost use Rattle.std.specs.Prelude.{◌≡◌, ◌<◌, ◌≤◌, ◌&&◌, [], is_some, OnOk};
+ghost use Rattle.std.specs.Prelude.{◌≡◌, ◌<◌, ◌≤◌, ◌&&◌, is_some, OnOk};
 ghost use Rattle.tn_base.specs.declared.event.Event.TheVariants as event;
 ghost use Rattle.tn_stamped.specs.Doing.{DoesOne, DoesTurn, DoesTwoOr, IsReady};
 ghost use Rattle.tn_part.specs.Meeting.{IsJoined, IsNoTurn};
-ghost use Rattle.tn_stamped.specs.Placed.{StandsHere};
+ghost use Rattle.tn_stamped.specs.Placed.{GrewAlone, GrewTogether, StandsHere};
 ghost use Rattle.tn_part.specs.Turning.{did_turn};
 ghost use Rattle.tn_rows.specs.Ends.{ended_on};
 ghost use Rattle.tn_rows.specs.Places.{One, Two, places};
@@ -54,9 +54,9 @@ impl<L: Link> Item for Placed<L> {
 }
 
 impl<L: Link> Placed<L> {
-    /// A part on which nothing happened yet, at its place.
+    /// A stamped part at its place. Each event of its journal is on this place.
     pub fn of(shape: Shape, place: PartId, stamped: Stamped<L>) -> Placed<L>
-        requires { stamped.entries ≡ [] }
+        requires { StandsHere (record { stamped = stamped; shape = shape; place = place.0 }) }
         ensures { result ≡ record { stamped = stamped; shape = shape; place = place.0 } }
     {
         Placed {
@@ -105,6 +105,7 @@ impl<L: Link> Placed<L> {
         ensures turn { DoesTurn result.turned t self.old.stamped self.new.stamped }
         ensures ends { result.ends ≡ (did_turn result.turned && is_some (ended_on t self.new.stamped.present)) }
         ensures stock { StockLasts result.turned stock.old stock.new }
+        ensures grows { GrewAlone self.old self.new }
         ensures stays { (self.new.shape ≡ self.old.shape) × (self.new.place ≡ self.old.place) }
     {
         self.stamped.turn(t, stock)
@@ -116,6 +117,7 @@ impl<L: Link> Placed<L> {
         requires event { IsNoTurn e }
         requires ready { IsReady self.old.stamped }
         ensures event { DoesOne (moved result) e self.old.stamped self.new.stamped }
+        ensures grows { GrewAlone self.old self.new }
         ensures stays { (self.new.shape ≡ self.old.shape) × (self.new.place ≡ self.old.place) }
     {
         self.stamped.one(e)
@@ -129,6 +131,7 @@ impl<L: Link> Placed<L> {
         requires ready { IsReady self.old.stamped }
         requires high_ready { IsReady high.old.stamped }
         ensures event { DoesTwoOr result e self.old.stamped high.old.stamped self.new.stamped high.new.stamped }
+        ensures grow { GrewTogether self.old high.old self.new high.new }
         ensures stays { (self.new.shape ≡ self.old.shape) × (self.new.place ≡ self.old.place) }
         ensures high_stays { (high.new.shape ≡ high.old.shape) × (high.new.place ≡ high.old.place) }
     {
