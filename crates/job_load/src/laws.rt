@@ -5,22 +5,18 @@ ghost use Rattle.std.specs.List.{AllByRecursion};
 ghost use Rattle.tn_rows.specs.WorldView.{WorldView};
 ghost use Rattle.job_text.specs.declared.job.FillLine.{FillLine};
 ghost use Rattle.job_text.specs.declared.job.Job.{Job};
-ghost use Rattle.job_text.specs.declared.job.TextSection.{TextSection};
-ghost use Rattle.job_faults.specs.declared.fault.FaultName.TheVariants as fault;
 ghost use Rattle.job_faults.specs.declared.fault.LoadFault.{LoadFault};
-ghost use Rattle.job_faults.specs.Faults.{fault_at};
 ghost use Rattle.job_faults.specs.Order.{load_fault};
 ghost use Rattle.job_load.specs.Images.{IsWithin};
 ghost use Rattle.job_load.specs.Laws.{IsMemory, IsStart};
 ghost use Rattle.job_load.specs.Loaded.{loaded};
 ghost use Rattle.job_load.specs.Start.{start_of};
 
-/// A fault refuses a job before its graph does. If no fault refuses a job, its graph refuses the job at the graph's line. A
-/// job without a fault and without a graph is accepted, whatever its host waits for.
-pub fn law_unbuilt()
-    ensures last { (job : Job) (found : LoadFault) → load_fault job ≡ Some found → loaded job ≡ Err found }
-    ensures refuses { (job : Job) (graph : TextSection) → load_fault job ≡ None → job.graph ≡ Some graph → loaded job ≡ Err (fault_at graph.line fault.UnsupportedYet) }
-    ensures accepts { (job : Job) → load_fault job ≡ None → job.graph ≡ None → loaded job ≡ Ok (start_of job) }
+/// A job is refused if and only if it has a fault, by its first fault. A job without a fault is accepted, with a graph or without
+/// a graph, whatever its host waits for.
+pub fn law_accepted()
+    ensures refuses { (job : Job) (found : LoadFault) → load_fault job ≡ Some found → loaded job ≡ Err found }
+    ensures accepts { (job : Job) → load_fault job ≡ None → loaded job ≡ Ok (start_of job) }
 {}
 
 /// A job that is accepted gives a machine in which nothing has happened.
