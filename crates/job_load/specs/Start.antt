@@ -6,7 +6,7 @@ use Rattle.tn_base.specs.declared.part.Kind.{Kind}
 use Rattle.tn_base.specs.declared.part.Kind.TheVariants as kind
 use Rattle.tn_base.specs.declared.shape.ShapeNumbers.{ShapeNumbers}
 use Rattle.tn_base.specs.Address.{has_tile, in_tile, tile_threads}
-use Rattle.tn_base.specs.Parts.{parts, visited}
+use Rattle.tn_base.specs.Parts.{board_at, board_count, parts, visited}
 use Rattle.tn_detect.specs.DetectorView.{fresh_detector}
 use Rattle.tn_host.specs.Rows.{fresh_state}
 use Rattle.tn_keys.specs.Tables.{HasBoard, Table, table_of}
@@ -55,6 +55,10 @@ table_by job (Some m) board = table_of job.numbers m.routes.tables board
 -- the table of a board: that of the graph's routes, or what the job's table sections say
 abbrev pub board_table : Job → Board → Table
 board_table job board = table_by job (graph_mapped job) board
+
+-- the tables of all boards at the start, by board y, then x
+unfoldable pub start_tables : Job → List Table
+start_tables job = map (λ i. board_table job (board_at job.numbers i)) (range_with_len 0 (board_count job.numbers))
 
 -- a part at its start: a tile, a router over its table, a link without packets, the host with its script, or the detector
 -- without reports, which visits the host, the tiles and the routers

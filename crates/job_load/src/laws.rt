@@ -6,9 +6,11 @@ ghost use Rattle.tn_rows.specs.WorldView.{WorldView};
 ghost use Rattle.job_text.specs.declared.job.FillLine.{FillLine};
 ghost use Rattle.job_text.specs.declared.job.Job.{Job};
 ghost use Rattle.job_faults.specs.declared.fault.LoadFault.{LoadFault};
+ghost use Rattle.job_faults.specs.declared.map.Mapped.{Mapped};
+ghost use Rattle.job_faults.specs.Mapping.{graph_mapped};
 ghost use Rattle.job_faults.specs.Order.{load_fault};
 ghost use Rattle.job_load.specs.Images.{IsWithin};
-ghost use Rattle.job_load.specs.Laws.{IsMemory, IsStart};
+ghost use Rattle.job_load.specs.Laws.{AreSeated, IsMemory, IsStart};
 ghost use Rattle.job_load.specs.Loaded.{loaded};
 ghost use Rattle.job_load.specs.Start.{start_of};
 
@@ -19,9 +21,16 @@ pub fn law_accepted()
     ensures accepts { (job : Job) → load_fault job ≡ None → loaded job ≡ Ok (start_of job) }
 {}
 
-/// A job that is accepted gives a machine in which nothing has happened.
+/// A job that is accepted gives a machine in which nothing has happened. Without a graph each thread begins at address 0. In a job
+/// with a graph each thread has a softswitch that has done nothing yet.
 pub fn law_start()
     ensures { (job : Job) (world : WorldView) → loaded job ≡ Ok world → IsStart job world }
+{}
+
+/// In the machine of an accepted job with a graph, the thread where a vertex has its seat has the vertex's device, at the seat's
+/// place.
+pub fn law_devices()
+    ensures { (job : Job) (m : Mapped) → load_fault job ≡ None → graph_mapped job ≡ Some m → AreSeated job m }
 {}
 
 /// Where two fills give a byte of a thread's memory the later one wins, and what none gives is 0.

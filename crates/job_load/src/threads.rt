@@ -50,7 +50,7 @@ fn threads_over(
     Ok(threads)
 }
 
-/// The threads of a tile over the states of their vertices, which stand from this place on.
+/// The threads of a tile over the states of their vertices.
 fn seated_threads(
     alloc: Global,
     shape: &Shape,
@@ -93,9 +93,9 @@ fn seats_on<'a>(shape: &Shape, seats: &'a [Seated], tile: TileId) -> &'a [Seated
     ensures { result.now ≡ seats_on shape.now seats.now tile.0 }
 {
     law_tile_parts(shape);
-    let count = shape.tile_threads();
-    let first = (shape.tile_part(tile).0 - 1) * count;
-    &seats[first as usize..(first + count) as usize]
+    let count = shape.tile_threads() as usize;
+    let first = (shape.tile_part(tile).0 - 1) as usize * count;
+    &seats[first..first + count]
 }
 
 impl TileThreads {
@@ -114,6 +114,7 @@ impl TileThreads {
         ensures threads { IfOk result (λ t. with_switches t.threads.items t.switches.items ≡ by_address (thread_start job.now) shape.now tile.0) }
         ensures few { IfOk result (λ t. length t.switches.items ≤ length t.threads.items) }
     {
+        let _numbers = shape.numbers();
         match origin {
             Origin::Sections { images, .. } => Ok(TileThreads {
                 threads: threads_over(alloc, shape, images, tile)?,
