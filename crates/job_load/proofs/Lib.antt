@@ -1,4 +1,5 @@
 pub mod Accepted
+pub mod Fits
 pub mod Images
 pub mod Memory
 pub mod Named
