@@ -47,20 +47,16 @@ fn all_given(
 ) -> Option<Entries>
     ensures { result ≡ all_given init send recv step finish }
 {
-    let (Some(init), Some(send), Some(recv), Some(step), Some(finish)) =
-        (init, send, recv, step, finish)
-    else {
+    let (Some(init), Some(send), Some(recv), Some(step), Some(finish)) = (
+        init, send, recv, step, finish,
+    ) else {
         return None;
     };
     Some([init, send, recv, step, finish])
 }
 
 /// The addresses of a kind's handlers, if each handler has its label.
-fn entries_of(
-    alloc: Global,
-    labels: &Labels,
-    kind: &Name,
-) -> Result<Option<Entries>, AllocError>
+fn entries_of(alloc: Global, labels: &Labels, kind: &Name) -> Result<Option<Entries>, AllocError>
     ensures { IfOk result (λ entries. entries ≡ entries_of labels.now kind.now) }
 {
     let init = entry_of(alloc, labels, kind, b"_init".as_slice())?;
