@@ -72,4 +72,3 @@ loop-lists-preserved c =
     let made = seat_made c.args.shape.now c.args.graph.now c.args.keys.now c.args.entries.now xs (length c.loop-lists.yielded)
     c.vertices-vertices.result.now c.in-Some.lists c.in_ok-start.start.image.items c.in_ok-start.start.switch vertices next.item c.in_ok-start.ensures.image c.in_ok-start.ensures.switch in
     more_seated f c.loop-lists.all.items c.push.new.self.items _ c.loop-lists.yielded c.in-Some.lists c.loop-lists.invariant made c.in_ok-push.ensures.items
-
