@@ -10,7 +10,7 @@ use Rattle.std.proofs.lemmas.Nat.{div-add-mod'}
 use Rattle.tn_base.specs.declared.part.Kind.{Kind}
 use Rattle.tn_base.specs.declared.part.Kind.TheVariants as kind
 use Rattle.tn_base.specs.declared.shape.ShapeNumbers.{ShapeNumbers}
-use Rattle.tn_base.specs.Address.{has_thread}
+use Rattle.tn_base.specs.Address.{has_thread, has_tile}
 use Rattle.tn_base.specs.Parts.{board_at, board_count, parts, tile_at, tile_count}
 use Rattle.tn_base.specs.Shape.{WithinLimits, first_fault, is_shape}
 use Rattle.tn_base.proofs.Places.{orders_tiles}
@@ -37,7 +37,8 @@ use Rattle.job_faults.specs.Mapping.{graph_fault, graph_mapped}
 use Rattle.job_faults.specs.Mixed.{mixed_fault}
 use Rattle.job_faults.specs.Order.{load_fault, unless}
 use Rattle.job_faults.specs.Routed.{routes_fault}
-use Rattle.job_load.specs.Start.{IsThere, part_start, start_of, start_tables, table_by}
+use Rattle.job_load.specs.Start.{IsThere, by_address, part_start, start_of, start_tables, table_by, thread_start}
+use Rattle.tn_tile.specs.Kept.{AreStarts}
 use Rattle.job_faults.specs.Tables.{table_fault, tables_of}
 use Rattle.job_faults.proofs.Boards.{faultless}
 use Rattle.job_faults.proofs.Faultless.{any_later, each_none, in_limits, limits_of, no_code}
@@ -153,3 +154,10 @@ fault_refuses job f e = rw e refl
 -- a job without a fault is accepted
 pub faultless_accepted : (job : Job) → load_fault job ≡ None → loaded job ≡ Ok (start_of job)
 faultless_accepted job none = rw none refl
+
+-- the threads of a tile of a job without a fault
+pub starts_there : (job : Job) (n : ShapeNumbers) (tile : ℕ) → n ≡ job.numbers → load_fault job ≡ None → IsTrue (has_tile n tile) → AreStarts n tile (by_address (thread_start job) n tile)
+starts_there job n tile e none there =
+    let each = each_none job none in
+    subst (λ (m : ShapeNumbers). IsTrue (has_tile m tile) → AreStarts m tile (by_address (thread_start job) m tile)) (sym e)
+    (λ here. tile_starts job tile (fits_graph job (graph_mapped job) none refl) (sized job each.sections) (limits_of job each.numbers) here) there

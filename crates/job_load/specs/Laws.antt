@@ -1,5 +1,5 @@
 -- What the definitions of memory and of the start mean.
-use Rattle.std.specs.Prelude.{ℕ, ⊥, ◌≡◌, ◌⊎◌, ◌≤◌, ◌<◌, ◌+◌, ◌-◌, ◌++◌, ◌&&◌, List, [], ◌∷◌, length, nat_le, nat_lt, Option, Some, None, replicate, slice_index, if◌then◌else◌, IsTrue, true, false}
+use Rattle.std.specs.Prelude.{ℕ, ◌≡◌, ◌⊎◌, ◌≤◌, ◌<◌, ◌+◌, ◌-◌, ◌++◌, ◌&&◌, List, [], ◌∷◌, length, nat_le, nat_lt, Option, Some, None, replicate, slice_index, if◌then◌else◌, IsTrue, true, false}
 use Rattle.std.specs.List.{AllByRecursion, filter_map}
 use Rattle.std.specs.Option.{option_or, unwrap_or}
 use Rattle.tn_base.specs.declared.part.Kind.{Kind}
