@@ -1,18 +1,17 @@
 -- The start of a job that is accepted.
-use Rattle.std.proofs.Common.{ℕ, ◌≡◌, ◌≤◌, ◌<◌, ◌+◌, ◌||◌, ◌∷◌, [], Bool, true, false, not, IsTrue, List, Option, Some, None, length, map, nat_lt, option_map, inl, inr, zero, suc, refl, sym, ap, subst, arith, if◌then◌else◌}
-use Rattle.std.specs.List.{AllByRecursion, list_any, range_with_len}
+use Rattle.std.proofs.Common.{ℕ, ◌≡◌, ◌+◌, ◌∷◌, [], Bool, true, false, not, IsTrue, List, Option, Some, None, length, map, nat_lt, refl, sym, ap, subst, arith, if◌then◌else◌}
+use Rattle.std.specs.List.{AllByRecursion, range_with_len}
 use Rattle.std.specs.declared.result.Result.{Result}
 use Rattle.std.specs.declared.result.Result.TheVariants.{Ok, Err}
-use Rattle.std.proofs.lemmas.Bool.{cases_eq}
 use Rattle.std.proofs.lemmas.Bool.Decides.{nat_tests}
 use Rattle.std.proofs.lemmas.List.FromFn.{fill_by_all}
 use Rattle.std.proofs.lemmas.Nat.{div-add-mod'}
 use Rattle.tn_base.specs.declared.part.Kind.{Kind}
 use Rattle.tn_base.specs.declared.part.Kind.TheVariants as kind
 use Rattle.tn_base.specs.declared.shape.ShapeNumbers.{ShapeNumbers}
-use Rattle.tn_base.specs.Address.{has_thread}
+use Rattle.tn_base.specs.Address.{has_thread, has_tile}
 use Rattle.tn_base.specs.Parts.{board_at, board_count, parts, tile_at, tile_count}
-use Rattle.tn_base.specs.Shape.{WithinLimits, first_fault, is_shape}
+use Rattle.tn_base.specs.Shape.{WithinLimits}
 use Rattle.tn_base.proofs.Places.{orders_tiles}
 use Rattle.tn_keys.specs.Accepted.{Accepted}
 use Rattle.tn_keys.specs.Tables.{Table, table_at, table_of}
@@ -20,24 +19,20 @@ use Rattle.tn_rows.specs.WorldView.{WorldView}
 use Rattle.job_text.specs.declared.job.FillLine.{FillLine}
 use Rattle.job_text.specs.declared.job.Job.{Job}
 use Rattle.job_text.specs.declared.job.TableSection.{TableSection}
-use Rattle.job_text.specs.declared.job.TextSection.{TextSection}
 use Rattle.job_faults.specs.declared.fault.FaultName.TheVariants as fault
 use Rattle.job_faults.specs.declared.fault.LoadFault.{LoadFault}
 use Rattle.job_faults.specs.declared.map.Mapped.{Mapped}
 use Rattle.job_faults.specs.Code.{code_of, is_empty, lacks_code}
 use Rattle.job_faults.specs.Assembly.{sections_of}
-use Rattle.job_faults.specs.Faults.{asm_fault, beat_fault, beat_lines, fault_at, fill_fault, has_board, missing_fault, number_fault, place_fault, section_fault, send_fault, shape_line}
+use Rattle.job_faults.specs.Faults.{beat_fault, beat_lines, fault_at, fill_fault, has_board, missing_fault, number_fault, place_fault, section_fault, send_fault, shape_line}
 use Rattle.job_load.specs.Images.{IsWithin}
-use Rattle.job_faults.specs.Labels.{labels_fault}
-use Rattle.job_faults.specs.Room.{room_fault}
 use Rattle.job_load.specs.Graph.{FitsGraph}
 use Rattle.job_load.specs.Laws.{HasStarts, IsFreshPart, IsStart}
 use Rattle.job_load.specs.Loaded.{loaded}
-use Rattle.job_faults.specs.Mapping.{graph_fault, graph_mapped}
-use Rattle.job_faults.specs.Mixed.{mixed_fault}
+use Rattle.job_faults.specs.Mapping.{graph_mapped}
 use Rattle.job_faults.specs.Order.{load_fault, unless}
-use Rattle.job_faults.specs.Routed.{routes_fault}
-use Rattle.job_load.specs.Start.{IsThere, part_start, start_of, start_tables, table_by}
+use Rattle.job_load.specs.Start.{IsThere, by_address, part_start, start_of, start_tables, table_by, thread_start}
+use Rattle.tn_tile.specs.Kept.{AreStarts}
 use Rattle.job_faults.specs.Tables.{table_fault, tables_of}
 use Rattle.job_faults.proofs.Boards.{faultless}
 use Rattle.job_faults.proofs.Faultless.{any_later, each_none, in_limits, limits_of, no_code}
@@ -153,3 +148,10 @@ fault_refuses job f e = rw e refl
 -- a job without a fault is accepted
 pub faultless_accepted : (job : Job) → load_fault job ≡ None → loaded job ≡ Ok (start_of job)
 faultless_accepted job none = rw none refl
+
+-- the threads of a tile of a job without a fault
+pub starts_there : (job : Job) (n : ShapeNumbers) (tile : ℕ) → n ≡ job.numbers → load_fault job ≡ None → IsTrue (has_tile n tile) → AreStarts n tile (by_address (thread_start job) n tile)
+starts_there job n tile e none there =
+    let each = each_none job none in
+    subst (λ (m : ShapeNumbers). IsTrue (has_tile m tile) → AreStarts m tile (by_address (thread_start job) m tile)) (sym e)
+    (λ here. tile_starts job tile (fits_graph job (graph_mapped job) none refl) (sized job each.sections) (limits_of job each.numbers) here) there

@@ -1,10 +1,10 @@
 -- Each vertex of a graph has its device on the thread of its seat.
-use Rattle.std.proofs.Common.{ℕ, ◌≡◌, ◌≤◌, ◌<◌, ◌+◌, ◌∷◌, ◌∙◌, [], inl, inr, zero, suc, IsTrue, List, Option, Some, None, get_or, length, slice_index_or, refl, sym, ap, subst, arith}
+use Rattle.std.proofs.Common.{ℕ, ◌≡◌, ◌<◌, ◌+◌, ◌∷◌, ◌∙◌, [], inl, inr, zero, suc, IsTrue, List, Option, Some, None, get_or, length, refl, sym, ap, subst, arith}
 use Rattle.std.proofs.lemmas.Bool.{cases_lt}
 use Rattle.tn_base.specs.declared.shape.ShapeNumbers.{ShapeNumbers}
 use Rattle.tn_base.specs.Address.{has_thread, thread_at}
 use Rattle.tn_base.specs.Shape.{WithinLimits, thread_count}
-use Rattle.tn_base.proofs.Places.{Orders, orders_threads}
+use Rattle.tn_base.proofs.Places.{orders_threads}
 use Rattle.polite_switch.specs.declared.device.InEdge.{InEdge}
 use Rattle.polite_switch.specs.Device.{device_at}
 use Rattle.graph_text.specs.declared.graph.Graph.{Graph}
@@ -18,7 +18,6 @@ use Rattle.polite_start.specs.Start.{devices_from, state_of}
 use Rattle.polite_start.proofs.Devices.{long}
 use Rattle.job_text.specs.declared.job.Job.{Job}
 use Rattle.job_faults.specs.declared.map.Mapped.{Mapped}
-use Rattle.job_faults.specs.Fits.{Fits}
 use Rattle.job_faults.specs.Mapping.{graph_mapped}
 use Rattle.job_faults.specs.Order.{load_fault}
 use Rattle.job_faults.proofs.Fits.{count_outs, edges_below, fits, threads_of}

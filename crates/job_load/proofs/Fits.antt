@@ -15,7 +15,7 @@ use Rattle.polite_switch.specs.Device.{AllNamed}
 use Rattle.polite_place.specs.declared.placement.Seat.{Seat}
 use Rattle.polite_place.specs.Outs.{outs_of}
 use Rattle.polite_place.specs.Roster.{Lists, vertices_on, weight_on}
-use Rattle.polite_place.specs.Seats.{Numbered, devices_on, placed, seat_of, seats}
+use Rattle.polite_place.specs.Seats.{Numbered, devices_on, seat_of, seats}
 use Rattle.polite_place.proofs.Devices.{devices_listed, numbered}
 use Rattle.polite_place.proofs.Rosters.{lists}
 use Rattle.polite_place.proofs.Seating.{length_seats}

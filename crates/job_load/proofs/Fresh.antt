@@ -1,10 +1,10 @@
 -- The threads of a job's tiles at their start.
-use Rattle.std.proofs.Common.{ℕ, ◌≡◌, ◌≤◌, ◌<◌, ◌+◌, ◌*◌, ◌∙◌, Bool, true, false, IsTrue, List, [], Option, Some, None, is_some, length, map, slice_index_or, refl, sym, subst, ap, arith}
+use Rattle.std.proofs.Common.{ℕ, ◌≡◌, ◌<◌, IsTrue, List, [], Option, Some, None, is_some, length, slice_index_or, refl, sym, subst, arith}
 use Rattle.std.specs.Prelude.{MatchOption, ⊤}
-use Rattle.std.specs.List.{AllByRecursion, range_with_len}
+use Rattle.std.specs.List.{AllByRecursion}
 use Rattle.std.proofs.lemmas.List.FromFn.{get_or-map-range_with_len, length-map-range_with_len}
 use Rattle.tn_base.specs.declared.shape.ShapeNumbers.{ShapeNumbers}
-use Rattle.tn_base.specs.Address.{has_tile, in_tile, tile_place, tile_threads}
+use Rattle.tn_base.specs.Address.{has_tile, in_tile, tile_threads}
 use Rattle.tn_base.specs.Shape.{WithinLimits, thread_count}
 use Rattle.polite_switch.specs.declared.device.InEdge.{InEdge}
 use Rattle.polite_switch.specs.SwitchModel.{SwitchModel}
@@ -22,7 +22,7 @@ use Rattle.job_faults.specs.declared.map.Mapped.{Mapped}
 use Rattle.job_faults.specs.Assembly.{labels_of}
 use Rattle.job_faults.specs.Labels.{entries_in}
 use Rattle.job_faults.specs.Mapping.{graph_mapped}
-use Rattle.job_load.specs.Graph.{FitsGraph, FitsMachine, StartsFit, place_of, seated, seated_in, thread_with}
+use Rattle.job_load.specs.Graph.{FitsGraph, StartsFit, place_of, seated, seated_in}
 use Rattle.job_load.specs.Images.{memory_of}
 use Rattle.job_load.specs.Laws.{IsFreshThread}
 use Rattle.job_load.specs.Start.{by_address, thread_by, thread_start}

@@ -1,12 +1,12 @@
 -- A thread's place among those of the machine.
-use Rattle.std.proofs.Common.{ℕ, ◌≡◌, ◌≤◌, ◌<◌, ◌+◌, ◌*◌, ◌/◌, ◌%◌, ◌∙◌, IsTrue, refl, sym, ap, arith}
+use Rattle.std.proofs.Common.{ℕ, ◌≡◌, ◌<◌, ◌+◌, ◌*◌, ◌/◌, ◌%◌, ◌∙◌, IsTrue, refl, arith}
 use Rattle.std.proofs.lemmas.Nat.{div-mul-add, mod-mul-add, mul-add-lt}
 use Rattle.tn_base.specs.declared.shape.ShapeNumbers.{ShapeNumbers}
-use Rattle.tn_base.specs.Address.{above, has_thread, has_tile, in_tile, place_in_tile, thread_at, tile_of, tile_place, tile_threads}
+use Rattle.tn_base.specs.Address.{has_thread, has_tile, in_tile, place_in_tile, thread_at, tile_of, tile_place, tile_threads}
 use Rattle.tn_base.specs.Parts.{tile_at, tile_count}
 use Rattle.tn_base.specs.Shape.{WithinLimits, thread_count}
 use Rattle.job_load.specs.Graph.{place_of}
-use Rattle.tn_base.proofs.TilePlaces.{fields, place_back, place_below, place_named, place_there, tile_found}
+use Rattle.tn_base.proofs.TilePlaces.{fields, place_back, place_below, place_there, tile_found}
 
 -- the address of the thread whose digits are a tile, a core and a thread
 at_digits : (n : ShapeNumbers) (p c t : ℕ) → c < n.cores → t < n.threads → thread_at n (p * tile_threads n + (c * n.threads + t)) ≡ tile_at n p + c * 16 + t

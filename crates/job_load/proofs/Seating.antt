@@ -1,5 +1,5 @@
 -- The threads of a graph's machine, one after the other.
-use Rattle.std.proofs.Common.{ℕ, ◌≡◌, ◌≤◌, ◌<◌, ◌+◌, ◌∷◌, ◌++◌, ◌∙◌, [], List, Option, get_or, length, map, refl, sym, ap, subst, arith}
+use Rattle.std.proofs.Common.{ℕ, ◌≡◌, ◌<◌, ◌∷◌, ◌++◌, ◌∙◌, [], List, Option, get_or, length, map, sym, ap, arith}
 use Rattle.std.specs.List.{range_with_len}
 use Rattle.std.proofs.lemmas.List.{get_or_default, length_push}
 use Rattle.std.proofs.lemmas.List.FromFn.{length-map-range_with_len, map-range_with_len_more}
@@ -11,7 +11,6 @@ use Rattle.polite_place.specs.Outs.{outs_of}
 use Rattle.polite_place.specs.Roster.{RosterView, roster_of, vertices_in, vertices_on}
 use Rattle.polite_start.specs.Start.{image_of, switch_of}
 use Rattle.job_load.specs.Graph.{seated}
-use Rattle.job_load.specs.SeatedModel.{SeatedModel}
 
 -- this is the next item of a list
 pub record IsNext {X : Type 0} (xs : List X) (i : ℕ) (d x : X) : Type 0 where

@@ -1,5 +1,5 @@
 -- The threads of a tile of a graph's machine.
-use Rattle.std.proofs.Common.{ℕ, ◌≡◌, ◌≤◌, ◌<◌, ◌+◌, ◌*◌, ◌∷◌, ◌∙◌, [], IsTrue, List, Some, drop, get_or, length, length-drop, map, take, refl, sym, ap, arith}
+use Rattle.std.proofs.Common.{ℕ, ◌≡◌, ◌≤◌, ◌<◌, ◌+◌, ◌*◌, ◌∷◌, ◌∙◌, [], IsTrue, List, Some, drop, get_or, length, length-drop, map, refl, sym, ap, arith}
 use Rattle.std.specs.List.{range_with_len}
 use Rattle.std.proofs.lemmas.Nat.{mul-le}
 use Rattle.std.proofs.lemmas.List.{get_or-drop, get_or_default, get_or-map, get_or-take, length-map, length-take-le}

@@ -1,6 +1,5 @@
 -- The threads of a graph's machine at the start.
-use Rattle.std.specs.Prelude.{ℕ, ◌≡◌, ◌≤◌, ◌<◌, ◌+◌, ◌*◌, List, [], drop, length, map, slice_index_or, take, MatchOption, Option, Some, None, ⊤}
-use Rattle.std.specs.List.{range_with_len}
+use Rattle.std.specs.Prelude.{ℕ, ◌≡◌, ◌≤◌, ◌<◌, ◌+◌, ◌*◌, List, [], drop, length, slice_index_or, take, MatchOption, Option, Some, ⊤}
 use Rattle.tn_base.specs.declared.shape.ShapeNumbers.{ShapeNumbers}
 use Rattle.tn_base.specs.Address.{in_tile, place_in_tile, tile_of, tile_place, tile_threads}
 use Rattle.tn_base.specs.Message.{flits}

@@ -1,6 +1,6 @@
 -- What the definitions of memory and of the start mean.
-use Rattle.std.specs.Prelude.{ℕ, ⊥, ◌≡◌, ◌⊎◌, ◌≤◌, ◌<◌, ◌+◌, ◌-◌, ◌++◌, ◌&&◌, List, [], ◌∷◌, length, nat_le, nat_lt, Option, Some, None, replicate, slice_index, if◌then◌else◌, IsTrue, true, false}
-use Rattle.std.specs.List.{AllByRecursion, filter_map}
+use Rattle.std.specs.Prelude.{ℕ, ◌≡◌, ◌<◌, ◌+◌, ◌-◌, ◌&&◌, List, [], ◌∷◌, length, nat_le, nat_lt, Option, Some, None, replicate, slice_index, if◌then◌else◌, IsTrue, true, false}
+use Rattle.std.specs.List.{AllByRecursion}
 use Rattle.std.specs.Option.{option_or, unwrap_or}
 use Rattle.tn_base.specs.declared.part.Kind.{Kind}
 use Rattle.tn_base.specs.declared.part.Kind.TheVariants as kind
@@ -28,11 +28,10 @@ use Rattle.tn_tile.specs.Kept.{AreStarts, IsFreshSwitch}
 use Rattle.tn_tile.specs.TileView.{TileView}
 use Rattle.job_text.specs.declared.job.FillLine.{FillLine}
 use Rattle.job_text.specs.declared.job.Job.{Job}
-use Rattle.job_faults.specs.declared.fault.LoadFault.{LoadFault}
 use Rattle.job_faults.specs.declared.map.Mapped.{Mapped}
 use Rattle.job_faults.specs.Assembly.{sections_of}
 use Rattle.job_faults.specs.Code.{code_of}
-use Rattle.job_faults.specs.Faults.{beat_fault, beat_lines, code_fault, fill_fault, has_board, place_fault, send_fault}
+use Rattle.job_faults.specs.Faults.{beat_fault, beat_lines, has_board, send_fault}
 use Rattle.job_faults.specs.Mapping.{graph_mapped}
 use Rattle.job_load.specs.Graph.{FitsGraph}
 use Rattle.job_load.specs.Images.{IsWithin, fills_of, memory_of}

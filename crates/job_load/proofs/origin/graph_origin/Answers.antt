@@ -1,4 +1,4 @@
-use Rattle.std.proofs.Common.{◌≡◌, ◌∙◌, List, ap}
+use Rattle.std.proofs.Common.{◌∙◌, List, ap}
 use Rattle.graph_text.specs.declared.graph.KindRow.{KindRow}
 use Rattle.job_faults.specs.Labels.{entries_in}
 use Rattle.job_load.proofs.Origins.{graph_comes, starts_fit}

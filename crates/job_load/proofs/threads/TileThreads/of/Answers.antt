@@ -1,4 +1,4 @@
-use Rattle.std.proofs.Common.{◌≡◌, ◌∙◌, List, length, map, ap, subst}
+use Rattle.std.proofs.Common.{◌∙◌, List, map, ap, subst}
 use Rattle.std.specs.List.{range_with_len}
 use Rattle.tn_base.specs.Address.{tile_threads}
 use Rattle.job_load.specs.Graph.{bare_thread, seats_on}
