@@ -22,13 +22,15 @@ pub fn law_accepted()
 {}
 
 /// A job that is accepted gives a machine in which nothing has happened. Without a graph each thread begins at address 0. In a job
-/// with a graph each thread has a softswitch that has done nothing yet.
+/// with a graph each thread begins at the firmware's address, and its softswitch has done nothing yet.
 pub fn law_start()
     ensures { (job : Job) (world : WorldView) → loaded job ≡ Ok world → IsStart job world }
 {}
 
 /// In the machine of an accepted job with a graph, the thread where a vertex has its seat has the vertex's device, at the seat's
-/// place.
+/// place. The device's handlers are those of the vertex's kind, its keys are those of the vertex's pins, and the thread's memory
+/// has the vertex's state at the device's address. No thread has further devices. Each thread has its in-edges of the graph's
+/// routes.
 pub fn law_devices()
     ensures { (job : Job) (m : Mapped) → load_fault job ≡ None → graph_mapped job ≡ Some m → AreSeated job m }
 {}
