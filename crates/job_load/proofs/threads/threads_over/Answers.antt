@@ -3,7 +3,7 @@ use Rattle.tn_base.specs.Address.{in_tile, tile_threads}
 use Rattle.job_load.specs.Start.{thread_over}
 use Rattle.job_faults.proofs.Ranges.{more_mapped}
 use Rattle.job_load.proofs.Starts.{thread_made}
-use Rattle.job_load.proofs.start.threads_of.Goals as goal
+use Rattle.job_load.proofs.threads.threads_over.Goals as goal
 
 pub loop-place-preserved : goal.loop-place-preserved
 loop-place-preserved c =

@@ -2,7 +2,7 @@ use Rattle.std.proofs.Common.{◌≡◌, ◌-◌, ◌++◌, map}
 use Rattle.std.specs.List.{range_with_len}
 use Rattle.tn_base.specs.Address.{in_tile, tile_threads}
 use Rattle.job_load.specs.Start.{by_address, thread_over}
-use Rattle.job_load.proofs.start.threads_of.Given as goal
+use Rattle.job_load.proofs.threads.threads_over.Given as goal
 
 abbrev pub invariant-loop-place : goal.invariant-loop-place
 invariant-loop-place l =
