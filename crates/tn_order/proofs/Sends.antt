@@ -34,12 +34,13 @@ use Rattle.tn_tile.specs.Rows.{can_count, is_here, turn_row}
 use Rattle.tn_tile.specs.Step.{pending_at, steps_of}
 use Rattle.tn_tile.specs.TileView.{TileView, now_by, with_now}
 use Rattle.tn_tile.proofs.Steps.{taken}
+use Rattle.tn_rows.specs.Visited.{released_part}
 use Rattle.tn_letters.specs.declared.steps.BagStep.{BagStep}
 use Rattle.tn_letters.specs.declared.steps.BagStep.TheVariants as bag
 use Rattle.tn_letters.specs.Law.{IsSendable}
 use Rattle.tn_letters.specs.Letters.{host_address, letter, packet_letters}
 use Rattle.tn_letters.specs.Machine.{BagRun}
-use Rattle.tn_letters.specs.Settled.{detector_on, released_part, settled}
+use Rattle.tn_letters.specs.Settled.{detector_on, settled}
 use Rattle.tn_letters.specs.State.{BagState, Program}
 use Rattle.tn_letters.specs.Steps.{arrival_steps, delivery_steps, dropped_at, event_steps, is_for_dead, meeting_steps, part_steps, put_steps, send_steps, steps_at, take_steps}
 use Rattle.tn_letters.specs.Tiles.{host_in, host_on, program_of, reach_of, tile_for}
