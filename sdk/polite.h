@@ -5,7 +5,7 @@
  * edge, the vertex's number (from 0, in the order of the graph's lines) and its readiness. A handler has no static data,
  * and a string or a table of constants is static data: `mkjob` refuses a graph's program that has any.
  *
- * No machine runs a graph yet. `mkjob` makes the job, and `tinsel map` places it.
+ * `mkjob` makes the job, `tinsel map` shows its places, and `tinsel run` runs it.
  */
 #ifndef POLITE_H
 #define POLITE_H

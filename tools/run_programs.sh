@@ -1,6 +1,6 @@
 #!/usr/bin/env bash
 # Runs the jobs of examples/c with the program that is given, and compares what each prints with its file NAME.out; a graph's job is
-# placed and assembled. Where the compiler and Python 3 are here, it tests the tools, builds each job as its source says, runs that job
+# placed and assembled too, and its `host` lines are sorted, since letters come to the host in any order. Where the compiler and Python 3 are here, it tests the tools, builds each job as its source says, runs that job
 # too, computes NAME.out in Python, and does what docs/PROGRAMMING.md says. Otherwise it says what it skipped.
 set -u
 top=$(cd "$(dirname "${BASH_SOURCE[0]}")/.." && pwd)
@@ -24,6 +24,11 @@ check() {
 }
 
 run_job() { "$program" run <"$1"; }
+run_graph() {
+  "$program" run <"$1" >"$work/report" || return
+  grep '^host ' "$work/report" | LC_ALL=C sort
+  grep -v '^host ' "$work/report"
+}
 map_job() { "$program" map <"$1"; }
 assemble() { sed '1,/^asm all$/d; /^end$/,$d' "$1" | "$program" asm; }
 
@@ -33,6 +38,7 @@ is_right() {
     sed -n 's/^\.word 0x//p' "$2" >"$work/words"
     check "assembly of $2" "$work/words" assemble "$2"
     check "map of $2" "$1.map" map_job "$2"
+    check "run of $2" "$1.out" run_graph "$2"
   else
     check "run of $2" "$1.out" run_job "$2"
   fi

@@ -1,7 +1,6 @@
 /*
  * Shortest paths: a vertex has the length of the shortest path to it that is known, and an edge's value is its length.
- * A vertex whose length falls sends it by its pin. At the end each vertex sends its length to the host. No machine runs a
- * graph yet.
+ * A vertex whose length falls sends it by its pin. At the end each vertex sends its length to the host.
  *
  * Build: mkjob --shape 2 1 2 2 1 2 --graph path.graph path.c -o path.job
  */

@@ -1,7 +1,6 @@
 /*
  * Page rank in whole numbers. In a step each page gives its rank in equal shares to the pages that it links to; its new
- * rank is 150,000 and 17/20 of the shares that it got. After 20 steps each page sends its rank to the host. No machine
- * runs a graph yet.
+ * rank is 150,000 and 17/20 of the shares that it got. After 20 steps each page sends its rank to the host.
  *
  * Build: mkjob --shape 1 1 2 1 1 2 --graph rank.graph rank.c -o rank.job
  */

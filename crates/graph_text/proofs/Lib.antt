@@ -1,4 +1,5 @@
-pub mod LineFits
+pub mod Flits
 pub mod Grows
-pub mod Sound
+pub mod LineFits
 pub mod Saying
+pub mod Sound

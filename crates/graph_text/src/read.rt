@@ -3,6 +3,7 @@
 ghost use Rattle.std.specs.Prelude.{◌≡◌, ◌+◌, ◌<◌, ◌^◌, length, IfOk};
 ghost use Rattle.tn_text.specs.Gives.{Gives};
 ghost use Rattle.tn_text.specs.Lines.{lines_of};
+ghost use Rattle.graph_text.specs.Flits.{lines_flits};
 ghost use Rattle.graph_text.specs.Graph.{IsGraph};
 ghost use Rattle.graph_text.specs.Rows.{IsSaid, said_lines};
 ghost use Rattle.graph_text.specs.Text.{graph_of, head_of};
@@ -56,6 +57,8 @@ pub fn read_graph(alloc: Global, lines: &[u8], first: u32) -> Result<Graph, Grap
     ensures says { IfOk result (λ graph. IsSaid graph (said_lines first (lines_of lines.now))) }
     // So its rows name rows that are there, and all numbers are within their limits.
     ensures fits { IfOk result (λ graph. IsGraph graph) }
+    // Its messages have the flits that the first line gives.
+    ensures flits { IfOk result (λ graph. graph.flits ≡ lines_flits (lines_of lines.now)) }
 {
     read(alloc, lines, first)
 }

@@ -9,7 +9,7 @@ ghost use Rattle.job_text.specs.declared.job.Job.{Job};
 ghost use Rattle.job_load.specs.Loaded.{loaded};
 ghost use Rattle.tn_letters.specs.Law.{IsBagRun, IsStart};
 
-use job_load::laws::{law_memory, law_start};
+use job_load::laws::law_start;
 use tn_letters::laws::law_runs;
 
 /// The start of each job that is accepted is one of the bag machine's law.
@@ -17,7 +17,6 @@ pub fn law_starts()
     ensures { (job : Job) (start : WorldView) → loaded job ≡ Ok start → IsStart start }
 {
     law_start();
-    law_memory();
 }
 
 /// Each run of an accepted job from its start is a run of the bag machine.

@@ -20,8 +20,7 @@ use Rattle.job_text.specs.declared.job.Owner.{Owner}
 use Rattle.job_text.specs.declared.job.TableSection.{TableSection}
 use Rattle.job_faults.specs.declared.fault.LoadFault.{LoadFault}
 use Rattle.job_faults.specs.Code.{words_by}
-use Rattle.job_faults.specs.Faults.{beat_fault, beat_from, beat_lines, fault_at, fault_of_beat, number_fault, sooner, soonest}
-use Rattle.job_faults.specs.Names.{name_of_beat}
+use Rattle.job_faults.specs.Faults.{beat_fault, beat_from, beat_lines, fault_of_beat, number_fault, sooner, soonest}
 use Rattle.job_faults.specs.ReadTables.{as_read, beats_in, read_fault}
 use Rattle.job_faults.specs.Tables.{beats_of}
 use Rattle.job_faults.proofs.Ranges.{rest_first}

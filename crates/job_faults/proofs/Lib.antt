@@ -1,7 +1,10 @@
 pub mod Assembled
+pub mod AtWords
 pub mod Boards
+pub mod Faultless
 pub mod Faults
 pub mod First
+pub mod Fits
 pub mod Labelled
 pub mod Maps
 pub mod Ranges

@@ -18,6 +18,7 @@ use Rattle.tn_text.specs.Gives.{Gives}
 use Rattle.tn_text.specs.Lines.{lines_of}
 use Rattle.graph_text.specs.declared.graph.Graph.{Graph}
 use Rattle.graph_text.specs.declared.graph.GraphKind.{GraphKind}
+use Rattle.graph_text.specs.Flits.{lines_flits}
 use Rattle.graph_text.specs.Text.{graph_of}
 use Rattle.polite_place.specs.declared.placement.PlaceStop.{PlaceStop}
 use Rattle.polite_place.specs.declared.placement.Seat.{Seat}
@@ -28,7 +29,7 @@ use Rattle.polite_routes.specs.declared.target.RouteStop.{RouteStop}
 use Rattle.polite_routes.specs.Answer.{Routes, routes_of}
 use Rattle.polite_routes.specs.Passes.{PassesButWidth}
 use Rattle.job_text.specs.declared.job.TextSection.{TextSection}
-use Rattle.job_faults.specs.Mapping.{is_long, lines_flits, placed_on, routed_on, text_graph}
+use Rattle.job_faults.specs.Mapping.{is_long, placed_on, routed_on, text_graph}
 
 pub text_read : (r : Result Graph (Stop (At GraphKind))) (s : TextSection) → Gives r (graph_of s.line (lines_of s.text)) → Gives r (text_graph s)
 unfolding text_graph

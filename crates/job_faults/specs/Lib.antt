@@ -2,6 +2,7 @@ pub mod Assembly
 pub mod Checked
 pub mod Code
 pub mod Faults
+pub mod Fits
 pub mod Labels
 pub mod Laws
 pub mod Mapping

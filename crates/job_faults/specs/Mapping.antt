@@ -1,19 +1,15 @@
 -- A job's graph, the places of its vertices, and its routes.
-use Rattle.std.specs.Prelude.{ℕ, ◌≡◌, ◌<◌, Bool, List, [], ◌∷◌, length, nat_lt, slice_index, MatchOption, Option, Some, None, if◌then◌else◌}
+use Rattle.std.specs.Prelude.{ℕ, ◌≡◌, ◌<◌, Bool, length, nat_lt, List, MatchOption, Option, Some, None, if◌then◌else◌}
 use Rattle.std.specs.declared.result.Result.{Result}
 use Rattle.std.specs.declared.result.Result.TheVariants.{Ok, Err}
 use Rattle.tn_base.specs.declared.shape.ShapeNumbers.{ShapeNumbers}
 use Rattle.tn_base.specs.Message.{flits}
-use Rattle.tn_text.specs.declared.numbers.Numeral.{Numeral}
-use Rattle.tn_text.specs.declared.numbers.Numeral.TheVariants.{Value, TooLarge, NoNumber}
 use Rattle.tn_text.specs.declared.stop.Fault.{Fault as At}
 use Rattle.tn_text.specs.declared.stop.Stop.{Stop}
-use Rattle.tn_text.specs.Content.{content_of}
 use Rattle.tn_text.specs.Lines.{lines_of}
-use Rattle.tn_text.specs.NumberLists.{numbers_in}
-use Rattle.tn_text.specs.Words.{words_of}
 use Rattle.graph_text.specs.declared.graph.Graph.{Graph}
 use Rattle.graph_text.specs.declared.graph.GraphKind.{GraphKind}
+use Rattle.graph_text.specs.Flits.{lines_flits}
 use Rattle.graph_text.specs.Graph.{IsGraph}
 use Rattle.graph_text.specs.Text.{graph_of}
 use Rattle.polite_place.specs.declared.placement.PlaceStop.{PlaceStop}
@@ -35,21 +31,6 @@ use Rattle.job_faults.specs.Faults.{fault_at}
 use Rattle.job_faults.specs.Names.{fault_of_graph}
 
 -- The graph.
-
--- the first of two numbers
-abbrev pub first_number : Numeral (List ℕ) → ℕ
-first_number (Value ns) = slice_index ns 0
-first_number TooLarge = 0
-first_number NoNumber = 0
-
-abbrev pub words_flits : List (List ℕ) → ℕ
-words_flits [] = 0
-words_flits (w ∷ ws) = first_number (numbers_in 2 ws)
-
--- the flits that the first of these lines gives, that of the graph
-abbrev pub lines_flits : List (List ℕ) → ℕ
-lines_flits [] = 0
-lines_flits (l ∷ ls) = words_flits (words_of (content_of l))
 
 -- a message of version 1 has at most 4 flits
 unfoldable pub is_long : ShapeNumbers → TextSection → Bool

@@ -69,8 +69,6 @@ pub enum FaultName {
     KeyRange,
     Loop,
     TooWide,
-    // The machine does not have this yet.
-    UnsupportedYet,
 }
 
 /// A fault, and the line of the job's text that it stands on, counted from 1.
@@ -261,7 +259,6 @@ impl FaultName {
             FaultName::KeyRange => "KeyRange",
             FaultName::Loop => "Loop",
             FaultName::TooWide => "TooWide",
-            FaultName::UnsupportedYet => "UnsupportedYet",
         }
     }
 }

@@ -10,7 +10,7 @@ mod assembly;
 pub mod check;
 pub mod code;
 pub mod fault;
-mod handlers;
+pub mod handlers;
 pub mod laws;
 pub mod map;
 mod mapping;

@@ -25,7 +25,7 @@ pub struct Mapped {
 }
 
 /// The graph of a job with its places and routes, or the first fault. A job without a graph is refused behind all faults
-/// for which `load` refuses a job, at the shape's line. What the machine does not have yet counts for nothing here.
+/// for which `load` refuses a job, at the shape's line.
 pub fn map_graph(alloc: Global, job: &Job) -> Result<Mapped, LoadStop>
     requires formed { IsWellFormed job.now }
     requires numbered { AreNumbered job.now }

@@ -6,12 +6,13 @@ ghost use Rattle.tn_text.specs.Gives.{Gives};
 ghost use Rattle.tn_text.specs.Content.{content_of};
 ghost use Rattle.tn_text.specs.Lines.{lines_of};
 ghost use Rattle.tn_text.specs.Words.{words_of};
+ghost use Rattle.graph_text.specs.Flits.{lines_flits, words_flits};
 ghost use Rattle.graph_text.specs.Graph.{IsGraph};
 ghost use Rattle.job_text.specs.Numbered.{HaveNumbers};
 ghost use Rattle.polite_place.specs.Seats.{Places};
 ghost use Rattle.polite_routes.specs.Answer.{Routes};
 ghost use Rattle.job_faults.specs.Room.{AreLow};
-ghost use Rattle.job_faults.specs.Mapping.{AreMapped, IsMapped, Maps, graph_said, is_long, lines_flits, mapped_by, placed_as, placed_on, routed_as, routed_on, section_mapped, text_graph, words_flits};
+ghost use Rattle.job_faults.specs.Mapping.{AreMapped, IsMapped, Maps, graph_said, is_long, mapped_by, placed_as, placed_on, routed_as, routed_on, section_mapped, text_graph};
 
 use crate::fault::{FaultName, LoadFault, LoadStop};
 use crate::map::Mapped;

@@ -107,7 +107,7 @@ fn read_for(tables: &[ReadTable], board: Board) -> Option<&ReadTable>
 }
 
 /// The same beats.
-fn copy_beats(alloc: Global, beats: &[Beat]) -> Result<Vec<Beat>, AllocError>
+pub fn copy_beats(alloc: Global, beats: &[Beat]) -> Result<Vec<Beat>, AllocError>
     ensures { IfOk result (λ copies. copies.items ≡ beats.now) }
 {
     let mut copies = Vec::with_capacity(alloc, beats.len())?;

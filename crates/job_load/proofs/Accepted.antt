@@ -1,71 +1,51 @@
 -- The start of a job that is accepted.
-use Rattle.std.proofs.Common.{ℕ, ◌≡◌, ◌≤◌, ◌<◌, ◌+◌, ◌||◌, ◌∷◌, [], Bool, true, false, not, IsTrue, List, Option, Some, None, length, map, nat_lt, option_map, inl, inr, zero, suc, refl, subst, arith, if◌then◌else◌}
-use Rattle.std.specs.List.{AllByRecursion, list_any, range_with_len}
+use Rattle.std.proofs.Common.{ℕ, ◌≡◌, ◌+◌, ◌∷◌, [], Bool, true, false, not, IsTrue, List, Option, Some, None, length, map, nat_lt, refl, sym, ap, subst, arith, if◌then◌else◌}
+use Rattle.std.specs.List.{AllByRecursion, range_with_len}
 use Rattle.std.specs.declared.result.Result.{Result}
 use Rattle.std.specs.declared.result.Result.TheVariants.{Ok, Err}
-use Rattle.std.proofs.lemmas.Bool.{cases_eq}
 use Rattle.std.proofs.lemmas.Bool.Decides.{nat_tests}
+use Rattle.std.proofs.lemmas.List.FromFn.{fill_by_all}
+use Rattle.std.proofs.lemmas.Nat.{div-add-mod'}
 use Rattle.tn_base.specs.declared.part.Kind.{Kind}
 use Rattle.tn_base.specs.declared.part.Kind.TheVariants as kind
 use Rattle.tn_base.specs.declared.shape.ShapeNumbers.{ShapeNumbers}
-use Rattle.tn_base.specs.Address.{has_thread, in_tile, tile_threads}
-use Rattle.tn_base.specs.Parts.{parts, tile_at, tile_count}
-use Rattle.tn_base.specs.Shape.{first_fault, is_shape}
+use Rattle.tn_base.specs.Address.{has_thread, has_tile}
+use Rattle.tn_base.specs.Parts.{board_at, board_count, parts, tile_at, tile_count}
+use Rattle.tn_base.specs.Shape.{WithinLimits}
+use Rattle.tn_base.proofs.Places.{orders_tiles}
+use Rattle.tn_keys.specs.Accepted.{Accepted}
+use Rattle.tn_keys.specs.Tables.{Table, table_at, table_of}
 use Rattle.tn_rows.specs.WorldView.{WorldView}
 use Rattle.job_text.specs.declared.job.FillLine.{FillLine}
 use Rattle.job_text.specs.declared.job.Job.{Job}
 use Rattle.job_text.specs.declared.job.TableSection.{TableSection}
-use Rattle.job_text.specs.declared.job.TextSection.{TextSection}
 use Rattle.job_faults.specs.declared.fault.FaultName.TheVariants as fault
 use Rattle.job_faults.specs.declared.fault.LoadFault.{LoadFault}
+use Rattle.job_faults.specs.declared.map.Mapped.{Mapped}
 use Rattle.job_faults.specs.Code.{code_of, is_empty, lacks_code}
 use Rattle.job_faults.specs.Assembly.{sections_of}
-use Rattle.job_faults.specs.Faults.{asm_fault, beat_fault, beat_lines, fault_at, fill_fault, has_board, missing_fault, number_fault, place_fault, section_fault, send_fault, shape_line}
+use Rattle.job_faults.specs.Faults.{beat_fault, beat_lines, fault_at, fill_fault, has_board, missing_fault, number_fault, place_fault, section_fault, send_fault, shape_line}
 use Rattle.job_load.specs.Images.{IsWithin}
-use Rattle.job_faults.specs.Labels.{labels_fault}
-use Rattle.job_faults.specs.Room.{room_fault}
-use Rattle.job_load.specs.Laws.{IsFreshPart, IsFreshThread, IsStart}
-use Rattle.job_load.specs.Loaded.{loaded, unbuilt_fault}
-use Rattle.job_faults.specs.Mapping.{graph_fault}
-use Rattle.job_faults.specs.Mixed.{mixed_fault}
+use Rattle.job_load.specs.Graph.{FitsGraph}
+use Rattle.job_load.specs.Laws.{HasStarts, IsFreshPart, IsStart}
+use Rattle.job_load.specs.Loaded.{loaded}
+use Rattle.job_faults.specs.Mapping.{graph_mapped}
 use Rattle.job_faults.specs.Order.{load_fault, unless}
-use Rattle.job_faults.specs.Routed.{routes_fault}
-use Rattle.job_load.specs.Start.{by_address, part_start, start_of, thread_start}
-use Rattle.job_faults.specs.Tables.{table_fault}
+use Rattle.job_load.specs.Start.{IsThere, by_address, part_start, start_of, start_tables, table_by, thread_start}
+use Rattle.tn_tile.specs.Kept.{AreStarts}
+use Rattle.job_faults.specs.Tables.{table_fault, tables_of}
 use Rattle.job_faults.proofs.Boards.{faultless}
-use Rattle.job_faults.proofs.Faults.{none_soonest, or_neither}
-use Rattle.job_faults.proofs.Ranges.{all_in_range}
-use Rattle.job_load.proofs.Starts.{fill_within, nothing_found, start_is_world}
+use Rattle.job_faults.proofs.Faultless.{any_later, each_none, in_limits, limits_of, no_code}
+use Rattle.job_faults.proofs.Faults.{none_soonest}
+use Rattle.job_load.proofs.Fits.{fits_graph}
+use Rattle.job_load.proofs.Memory.{memory_is}
+use Rattle.job_load.proofs.Named.{parts_named}
+use Rattle.job_load.proofs.Starts.{fill_within, fills_within, nothing_found, start_is_world}
+use Rattle.job_load.proofs.Fresh.{IsSized, threads_fresh, tile_starts}
 
 passes : (f : Option LoadFault) (others : Result WorldView LoadFault) (w : WorldView) → unless f others ≡ Ok w → (f ≡ None) × (others ≡ Ok w)
 passes None others w e = (refl, e)
 passes (Some f) others w e = absurd cc
-
-no_fault : {X Y : Type 0} (g : X → Y) (f : Option X) → option_map g f ≡ None → f ≡ None
-no_fault g None e = refl
-no_fault g (Some f) e = absurd cc
-
-in_limits : (job : Job) → number_fault job ≡ None → IsTrue (is_shape job.numbers)
-in_limits job e = let none = no_fault _ (first_fault job.numbers) e in rw none refl
-
--- Code.
-
-neither : (a b : Bool) → (a || b) ≡ false → (a ≡ false) × (b ≡ false)
-neither true b e = absurd cc
-neither false b e = (refl, e)
-
-any_later : (test : ℕ → Bool) (first count i : ℕ) → list_any test (range_with_len first count) ≡ false → first ≤ i → i < first + count → test i ≡ false
-any_later test first zero i e lo hi = absurd (omega arith)
-any_later test first (suc count) i e lo hi =
-    let both = neither (test first) (list_any test (range_with_len (first + 1) count)) e in
-    elim (cases_eq first i) [
-      | inl same ↦ rw (← same) both.0
-      | inr other ↦ any_later test (first + 1) count i both.1 (omega arith) (omega arith)
-    ]
-
-no_code : (t : Bool) (f : LoadFault) → (if t then Some f else None) ≡ None → t ≡ false
-no_code true f e = absurd cc
-no_code false f e = refl
 
 -- Fills.
 
@@ -90,28 +70,54 @@ boards_there n (t ∷ ts) all = (board_there n t (has_board n t) all.0, boards_t
 
 -- Parts.
 
-fresh_thread : (job : Job) (thread : ℕ) → IsFreshThread (thread_start job thread)
-fresh_thread job thread = record { runs = refl; pc = refl; regs = refl; steps = refl; sends = refl }
+starts_of : (job : Job) (k : Kind) → FitsGraph job (graph_mapped job) → IsSized job → WithinLimits job.numbers → IsThere job.numbers k → HasStarts job k
+starts_of job (kind.Tile tile) fits sized l there = tile_starts job tile.0 fits sized l there
+starts_of job kind.Host fits sized l there = tt
+starts_of job (kind.Router board) fits sized l there = tt
+starts_of job (kind.Link from onto) fits sized l there = tt
+starts_of job kind.Detector fits sized l there = tt
 
-fresh_threads : (job : Job) (tile : ℕ) → AllByRecursion IsFreshThread (by_address (thread_start job) job.numbers tile)
-fresh_threads job tile =
-    all_in_range IsFreshThread (λ k. thread_start job (in_tile job.numbers tile k)) 0 (tile_threads job.numbers) (λ k less. fresh_thread job (in_tile job.numbers tile k))
+all_starts : (job : Job) (kinds : List Kind) → FitsGraph job (graph_mapped job) → IsSized job → WithinLimits job.numbers → AllByRecursion (IsThere job.numbers) kinds → AllByRecursion (HasStarts job) kinds
+all_starts job [] fits sized l there = tt
+all_starts job (k ∷ ks) fits sized l there = (starts_of job k fits sized l there.0, all_starts job ks fits sized l there.1)
 
-fresh_part : (job : Job) (k : Kind) → IsFreshPart (part_start job k)
-fresh_part job (kind.Tile tile) = record { threads = fresh_threads job tile.0; pending = refl; pool = refl; node = refl; dropped = refl; going = refl }
-fresh_part job kind.Host = refl
-fresh_part job (kind.Router board) = record { inputs = refl; node = refl; going = refl }
-fresh_part job (kind.Link from onto) = refl
-fresh_part job kind.Detector = refl
+fresh_part : (job : Job) (k : Kind) → HasStarts job k → IsFreshPart (part_start job k)
+fresh_part job (kind.Tile tile) starts = record { threads = threads_fresh job tile.0 starts; pending = refl; pool = refl; node = refl; dropped = refl; going = refl }
+fresh_part job kind.Host starts = refl
+fresh_part job (kind.Router board) starts = record { inputs = refl; node = refl; going = refl }
+fresh_part job (kind.Link from onto) starts = refl
+fresh_part job kind.Detector starts = refl
 
-fresh_parts : (job : Job) (kinds : List Kind) → AllByRecursion IsFreshPart (map (part_start job) kinds)
-fresh_parts job [] = tt
-fresh_parts job (k ∷ ks) = (fresh_part job k, fresh_parts job ks)
+fresh_parts : (job : Job) (kinds : List Kind) → AllByRecursion (HasStarts job) kinds → AllByRecursion IsFreshPart (map (part_start job) kinds)
+fresh_parts job [] starts = tt
+fresh_parts job (k ∷ ks) starts = (fresh_part job k starts.0, fresh_parts job ks starts.1)
 
-start_by : (job : Job) → number_fault job ≡ None → section_fault job ≡ None → missing_fault job ≡ None → table_fault job ≡ None → IsStart job (start_of job)
-start_by job numbers sections missing tables =
+-- The tables at the start.
+
+listed_tables : (n : ShapeNumbers) (tables : List Table) → length tables ≡ board_count n → map (λ i. table_of n tables (board_at n i)) (range_with_len 0 (board_count n)) ≡ tables
+listed_tables n tables e = sym (fill_by_all (λ i. table_of n tables (board_at n i)) tables (board_count n) [] e (λ k h. ap (table_at tables) (sym (div-add-mod' k n.boards_x))))
+
+tables_by : (job : Job) (mapped : Option Mapped) → FitsGraph job mapped → Accepted job.numbers (tables_of job) →
+    Accepted job.numbers (map (λ i. table_by job mapped (board_at job.numbers i)) (range_with_len 0 (board_count job.numbers)))
+unfolding tables_of
+tables_by job None fits plain = plain
+tables_by job (Some m) fits plain = subst (Accepted job.numbers) (sym (listed_tables job.numbers m.routes.tables fits.tables.count)) fits.tables
+
+tables_start : (job : Job) → FitsGraph job (graph_mapped job) → Accepted job.numbers (tables_of job) → Accepted job.numbers (start_tables job)
+unfolding start_tables
+tables_start job fits plain = tables_by job (graph_mapped job) fits plain
+
+-- The start.
+
+pub sized : (job : Job) → section_fault job ≡ None → IsSized job
+sized job sections = λ thread. (memory_is job.numbers.mem job.fills thread (fills_within job sections)).size_is
+
+start_by : (job : Job) → FitsGraph job (graph_mapped job) → number_fault job ≡ None → section_fault job ≡ None → missing_fault job ≡ None → table_fault job ≡ None → IsStart job (start_of job)
+start_by job fits numbers sections missing tables =
     let none = nothing_found job sections in
     let coded = no_code (lacks_code job.numbers (sections_of job)) (fault_at (shape_line job.number_lines) fault.NoCode) missing in
+    let l = limits_of job numbers in
+    let starts = all_starts job (parts job.numbers) fits (sized job sections) l (parts_named job.numbers (orders_tiles job.numbers l).there) in
     record {
       start = refl;
       world = start_is_world job;
@@ -121,53 +127,31 @@ start_by job numbers sections missing tables =
       boards = boards_there job.numbers job.tables (none_soonest (place_fault job.numbers) job.tables none.third);
       beats = none_soonest (beat_fault job.version) (beat_lines job.tables) none.fourth;
       sends = none_soonest (send_fault job.numbers) job.script none.fifth;
-      tables = faultless job tables;
-      fresh = fresh_parts job (parts job.numbers);
+      graph = fits;
+      tables = tables_start job fits (faultless job tables);
+      threads = starts;
+      fresh = fresh_parts job (parts job.numbers) starts;
     }
-
--- where no test finds a fault, each one says so
-pub record Faultless (job : Job) : Type 0 where
-  pub numbers : number_fault job ≡ None
-  pub mixed : mixed_fault job ≡ None
-  pub assembly : asm_fault job ≡ None
-  pub graph : graph_fault job ≡ None
-  pub sections : section_fault job ≡ None
-  pub missing : missing_fault job ≡ None
-  pub labels : labels_fault job ≡ None
-  pub room : room_fault job ≡ None
-  pub tables : table_fault job ≡ None
-  pub routes : routes_fault job ≡ None
-
-pub each_none : (job : Job) → load_fault job ≡ None → Faultless job
-each_none job e =
-    let one = or_neither (number_fault job) _ e in
-    let two = or_neither (mixed_fault job) _ one.1 in
-    let three = or_neither (asm_fault job) _ two.1 in
-    let four = or_neither (graph_fault job) _ three.1 in
-    let five = or_neither (section_fault job) _ four.1 in
-    let six = or_neither (missing_fault job) _ five.1 in
-    let seven = or_neither (labels_fault job) _ six.1 in
-    let eight = or_neither (room_fault job) _ seven.1 in
-    let nine = or_neither (table_fault job) (routes_fault job) eight.1 in
-    record { numbers = one.0; mixed = two.0; assembly = three.0; graph = four.0; sections = five.0; missing = six.0; labels = seven.0; room = eight.0; tables = nine.0; routes = nine.1 }
 
 pub accepted : (job : Job) (w : WorldView) → loaded job ≡ Ok w → IsStart job w
 accepted job w e =
-    let one = passes (load_fault job) (unless (unbuilt_fault job) (Ok (start_of job))) w e in
-    let two = passes (unbuilt_fault job) (Ok (start_of job)) w one.1 in
+    let one = passes (load_fault job) (Ok (start_of job)) w e in
     let none = each_none job one.0 in
     let same : start_of job ≡ w = cc in
     let P : WorldView → Type 0 = λ v. IsStart job v in
-    subst P same (start_by job none.numbers none.sections none.missing none.tables)
+    subst P same (start_by job (fits_graph job (graph_mapped job) one.0 refl) none.numbers none.sections none.missing none.tables)
 
--- any other fault refuses a job before its graph does
-pub unbuilt_last : (job : Job) (f : LoadFault) → load_fault job ≡ Some f → loaded job ≡ Err f
-unbuilt_last job f e = rw e refl
+-- a job with a fault is refused by its first fault
+pub fault_refuses : (job : Job) (f : LoadFault) → load_fault job ≡ Some f → loaded job ≡ Err f
+fault_refuses job f e = rw e refl
 
--- if no other fault refuses a job, its graph does
-pub unbuilt_refuses : (job : Job) (graph : TextSection) → load_fault job ≡ None → job.graph ≡ Some graph → loaded job ≡ Err (fault_at graph.line fault.UnsupportedYet)
-unbuilt_refuses job graph none e = rw (none, e) refl
+-- a job without a fault is accepted
+pub faultless_accepted : (job : Job) → load_fault job ≡ None → loaded job ≡ Ok (start_of job)
+faultless_accepted job none = rw none refl
 
--- a job without a fault and without a graph is accepted
-pub unbuilt_accepts : (job : Job) → load_fault job ≡ None → job.graph ≡ None → loaded job ≡ Ok (start_of job)
-unbuilt_accepts job none e = rw (none, e) refl
+-- the threads of a tile of a job without a fault
+pub starts_there : (job : Job) (n : ShapeNumbers) (tile : ℕ) → n ≡ job.numbers → load_fault job ≡ None → IsTrue (has_tile n tile) → AreStarts n tile (by_address (thread_start job) n tile)
+starts_there job n tile e none there =
+    let each = each_none job none in
+    subst (λ (m : ShapeNumbers). IsTrue (has_tile m tile) → AreStarts m tile (by_address (thread_start job) m tile)) (sym e)
+    (λ here. tile_starts job tile (fits_graph job (graph_mapped job) none refl) (sized job each.sections) (limits_of job each.numbers) here) there

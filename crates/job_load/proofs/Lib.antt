@@ -1,5 +1,14 @@
 pub mod Accepted
+pub mod Devices
+pub mod Fits
+pub mod Fresh
 pub mod Images
 pub mod Memory
 pub mod Named
+pub mod Origins
+pub mod Places
+pub mod Seating
+pub mod Seats
 pub mod Starts
+pub mod Tables
+pub mod Tiles

@@ -1,5 +1,5 @@
 -- The parts of a shape name no tile and no board that it does not have.
-use Rattle.std.proofs.Common.{ℕ, ◌<◌, ◌+◌, ◌-◌, ◌/◌, ◌*◌, ◌%◌, ◌∷◌, ◌++◌, ◌==◌, [], Bool, true, false, IsTrue, List, get_or, map, nat_lt, zero, suc, arith}
+use Rattle.std.proofs.Common.{ℕ, ◌<◌, ◌+◌, ◌-◌, ◌/◌, ◌*◌, ◌%◌, ◌∷◌, ◌++◌, ◌==◌, [], Bool, true, false, IsTrue, List, map, nat_lt, zero, suc, arith}
 use Rattle.std.specs.List.{AllByRecursion, flat_map, range_with_len}
 use Rattle.std.proofs.lemmas.Nat.{div_below, mod_below}
 use Rattle.tn_base.specs.declared.part.Kind.{Kind}

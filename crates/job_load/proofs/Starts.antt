@@ -4,7 +4,6 @@ use Rattle.std.specs.List.{AllByRecursion, range_with_len}
 use Rattle.std.specs.declared.result.Result.{Result}
 use Rattle.std.proofs.lemmas.Bool.Decides.{nat_tests}
 use Rattle.std.proofs.lemmas.List.{get_or-map, length-map, length-replicate}
-use Rattle.std.proofs.lemmas.List.FromFn.{get_or-map-range_with_len, length-map-range_with_len}
 use Rattle.tn_base.specs.declared.ids.ThreadId.{ThreadId}
 use Rattle.tn_base.specs.declared.part.Kind.{Kind}
 use Rattle.tn_base.specs.declared.part.Kind.TheVariants as kind
@@ -16,8 +15,7 @@ use Rattle.tn_rows.specs.PartView.{PartView, AbsentV}
 use Rattle.tn_rows.specs.WorldView.{WorldView}
 use Rattle.tn_thread.specs.declared.thread.Thread.{Thread}
 use Rattle.tn_thread.specs.Step.{started}
-use Rattle.tn_tile.specs.Kept.{AreStarts, fresh_tile}
-use Rattle.tn_tile.specs.Step.{no_thread}
+use Rattle.tn_tile.specs.Kept.{fresh_tile}
 use Rattle.tn_tile.specs.TileView.{TileView}
 use Rattle.job_text.specs.declared.job.FillLine.{FillLine}
 use Rattle.job_text.specs.declared.job.Job.{Job}
@@ -27,7 +25,8 @@ use Rattle.job_faults.specs.Code.{code_of}
 use Rattle.job_faults.specs.Faults.{beat_fault, beat_lines, code_fault, fault_at, fill_fault, place_fault, section_fault, send_fault, soonest}
 use Rattle.job_load.specs.Images.{AreImages, IsWithin, image_at, memory_of}
 use Rattle.tn_pages.specs.Paged.{filled, started_with}
-use Rattle.job_load.specs.Start.{by_address, part_start, start_of, thread_over, thread_start, tile_start}
+use Rattle.job_faults.specs.Mapping.{graph_mapped}
+use Rattle.job_load.specs.Start.{by_address, part_start, start_of, thread_by, thread_over, thread_start, tile_start}
 use Rattle.job_faults.proofs.Faults.{NoneFound, none_of_five, none_soonest}
 use Rattle.job_load.proofs.Images.{filled_long, filled_none}
 use Rattle.job_faults.proofs.Ranges.{map_same}
@@ -45,27 +44,16 @@ thread_same n fills images are thread =
     let whole : filled n.mem (memory_of n.mem fills thread) ≡ memory_of n.mem fills thread = filled_none n.mem (memory_of n.mem fills thread) (omega arith) in
     same_start n (record { 0 = thread }) (image_at images thread) (memory_of n.mem fills thread) (are.memory thread ∙ sym whole)
 
-pub threads_same : (n : ShapeNumbers) (job : Job) (images : List (List ℕ)) (tile : ℕ) → n ≡ job.numbers → AreImages n.mem job.fills images →
-    by_address (thread_over n images) n tile ≡ by_address (thread_start job) n tile
-threads_same n job images tile e are =
-    map_same (λ k. thread_over n images (in_tile n tile k)) (λ k. thread_start job (in_tile n tile k)) (range_with_len 0 (tile_threads n))
-    (λ k. thread_same n job.fills images are (in_tile n tile k) ∙ ap (λ m. started m (record { 0 = in_tile n tile k }) (memory_of m.mem job.fills (in_tile n tile k)) None) e)
+-- a thread of a job without a graph
+thread_plain : (job : Job) (thread : ℕ) → graph_mapped job ≡ None → thread_start job thread ≡ started job.numbers (record { 0 = thread }) (memory_of job.numbers.mem job.fills thread) None
+thread_plain job thread none = ap (λ m. thread_by job m thread) none
 
-pub threads_start : (n : ShapeNumbers) (images : List (List ℕ)) (tile : ℕ) → ((k : ℕ) → length (image_at images k) ≤ n.mem) →
-    AreStarts n tile (by_address (thread_over n images) n tile)
-threads_start n images tile few = record {
-  count = length-map-range_with_len (λ k. thread_over n images (in_tile n tile k)) 0 (tile_threads n);
-  each = λ k h. record {
-    image = image_at images (in_tile n tile k);
-    firmware = None;
-    switch = None;
-    fits = few (in_tile n tile k);
-    messages = tt;
-    fresh = tt;
-    both = refl;
-    start = get_or-map-range_with_len (λ k. thread_over n images (in_tile n tile k)) 0 (tile_threads n) k k no_thread h (omega arith);
-  };
-}
+pub threads_same : (n : ShapeNumbers) (job : Job) (images : List (List ℕ)) (tile : ℕ) → n ≡ job.numbers → graph_mapped job ≡ None → AreImages n.mem job.fills images →
+    by_address (thread_over n images) n tile ≡ by_address (thread_start job) n tile
+threads_same n job images tile e none are =
+    map_same (λ k. thread_over n images (in_tile n tile k)) (λ k. thread_start job (in_tile n tile k)) (range_with_len 0 (tile_threads n))
+    (λ k. thread_same n job.fills images are (in_tile n tile k) ∙ ap (λ m. started m (record { 0 = in_tile n tile k }) (memory_of m.mem job.fills (in_tile n tile k)) None) e
+    ∙ sym (thread_plain job (in_tile n tile k) none))
 
 -- a thread that was made is the one over its image
 pub thread_made : (n : ShapeNumbers) (images : List (List ℕ)) (id : ThreadId) (a : ℕ) (image : List ℕ) (thread : Thread) →
@@ -74,12 +62,10 @@ thread_made n images id a image thread e f g =
     g ∙ ap (λ m. started n id m None) f ∙ ap (λ b. thread_over n images b) e
 
 -- a tile that was made is the one of the job
-pub tile_made : (n : ShapeNumbers) (job : Job) (images : List (List ℕ)) (tile : ℕ) (words : List ℕ) (threads : List Thread) →
-    n ≡ job.numbers → AreImages n.mem job.fills images → words ≡ code_of (sections_of job) tile → threads ≡ by_address (thread_over n images) n tile →
-    fresh_tile n tile words threads ≡ tile_start job tile
-tile_made n job images tile words threads e are f g =
-    let same : threads ≡ by_address (thread_start job) job.numbers tile =
-    g ∙ threads_same n job images tile e are ∙ ap (λ m. by_address (thread_start job) m tile) e in
+pub tile_made : (n : ShapeNumbers) (job : Job) (tile : ℕ) (words : List ℕ) (threads : List Thread) →
+    n ≡ job.numbers → words ≡ code_of (sections_of job) tile → threads ≡ by_address (thread_start job) n tile → fresh_tile n tile words threads ≡ tile_start job tile
+tile_made n job tile words threads e f g =
+    let same : threads ≡ by_address (thread_start job) job.numbers tile = g ∙ ap (λ m. by_address (thread_start job) m tile) e in
     ap (λ m. fresh_tile m tile words threads) e ∙ ap (λ w. fresh_tile job.numbers tile w threads) f ∙ ap (λ all. fresh_tile job.numbers tile (code_of (sections_of job) tile) all) same
 
 pub if_made : {E : Type 0} (result : Result TileView E) (made tile : TileView) → made ≡ tile → IfOk result (λ t. t ≡ made) → IfOk result (λ t. t ≡ tile)

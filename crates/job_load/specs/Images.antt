@@ -1,5 +1,5 @@
 -- The memory of threads at the start.
-use Rattle.std.specs.Prelude.{ℕ, ◌≡◌, ◌≤◌, ◌+◌, ◌-◌, ◌==◌, ◌++◌, List, [], ◌∷◌, drop, filter, length, replicate, slice_index_or, take}
+use Rattle.std.specs.Prelude.{ℕ, ◌≡◌, ◌≤◌, ◌+◌, ◌==◌, ◌++◌, List, [], ◌∷◌, drop, filter, length, replicate, slice_index_or, take}
 use Rattle.job_text.specs.declared.job.FillLine.{FillLine}
 use Rattle.tn_pages.specs.Paged.{filled}
 

@@ -5,7 +5,6 @@ use Rattle.tn_base.specs.Bytes.{is_length}
 use Rattle.tn_host.specs.declared.script.ScriptItem.{ScriptItem}
 use Rattle.tn_host.specs.declared.script.ScriptItem.TheVariants as item
 use Rattle.job_text.specs.declared.job.Job.{Job}
-use Rattle.job_text.specs.declared.job.ScriptLine.{ScriptLine}
 use Rattle.job_text.specs.declared.job.ScriptText.{ScriptText}
 use Rattle.job_text.specs.declared.job.ScriptText.TheVariants.{Idle, Send}
 

@@ -4,9 +4,11 @@
 //! Read `load::load` first.
 #![tactic(auto)]
 
+mod graph;
 mod image;
 pub mod laws;
 pub mod load;
+mod origin;
 mod script;
 mod start;
-mod unbuilt;
+mod threads;

@@ -1,18 +1,18 @@
 //! A job's machine at its start.
 
-ghost use Rattle.std.specs.Prelude.{◌≡◌, ◌≤◌, ℕ, IfOk, IsTrue, length, map};
+ghost use Rattle.std.specs.Prelude.{◌≡◌, IfOk, IsTrue, map};
 ghost use Rattle.tn_base.specs.Address.{has_tile};
 ghost use Rattle.tn_base.specs.Parts.{parts};
 ghost use Rattle.job_faults.specs.Checked.{IsChecked};
-ghost use Rattle.job_load.specs.Images.{AreImages, image_at};
-ghost use Rattle.job_load.specs.Start.{IsThere, by_address, part_start, start_of, thread_over, tile_start};
+ghost use Rattle.job_load.specs.Origin.{IsMadeOf};
+ghost use Rattle.job_load.specs.Start.{IsThere, part_start, start_of, tile_start};
 
-use crate::image::Images;
+use crate::origin::Origin;
 use crate::script::script_of;
-use job_faults::check::Checked;
+use crate::threads::TileThreads;
+use job_faults::check::{Checked, Read};
 use job_faults::code::code_of;
-use job_faults::tables::table_for;
-use job_text::job::Job;
+use job_text::job::{CodeSection, Job};
 use std::alloc::{AllocError, Global};
 use tn_base::ids::{PartId, TileId};
 use tn_base::laws::law_tiles;
@@ -23,68 +23,48 @@ use tn_host::host::Host;
 use tn_link::plain::PlainLink;
 use tn_part::part::Part;
 use tn_router::router::Router;
-use tn_thread::thread::Thread;
 use tn_tile::tile::Tile;
 use tn_world::world::World;
-
-/// The threads of a tile over their images.
-fn threads_of(
-    alloc: Global,
-    shape: &Shape,
-    images: &Images,
-    tile: TileId,
-) -> Result<Vec<Thread>, AllocError>
-    requires tile { IsTrue (has_tile shape.now tile.0) }
-    requires images { (k : ℕ) → length (image_at images.now k) ≤ shape.now.mem }
-    ensures { IfOk result (λ threads. threads.items ≡ by_address (thread_over shape.now images.now) shape.now tile.0) }
-{
-    let count = shape.tile_threads();
-    let mut threads = Vec::with_capacity(alloc, count as usize)?;
-    for place in 0..count {
-        let id = shape.thread_in_tile(tile, place);
-        let thread = Thread::start(alloc, shape, id, images.image(id), None)?;
-        threads.push(thread)?;
-    }
-    Ok(threads)
-}
 
 /// A tile over its code and its threads.
 fn tile_of(
     alloc: Global,
-    images: &Images,
     job: &Job,
-    checked: &Checked,
+    shape: &Shape,
+    asms: &[CodeSection],
+    origin: &Origin,
     tile: TileId,
 ) -> Result<Tile, AllocError>
-    requires tile { IsTrue (has_tile checked.now.shape tile.0) }
-    requires images { AreImages checked.now.shape.mem job.now.fills images.now }
-    requires checked { IsChecked job.now checked.now }
+    requires tile { IsTrue (has_tile shape.now tile.0) }
+    requires made { IsMadeOf job.now shape.now asms.now origin.now }
     ensures { IfOk result (λ t. t ≡ tile_start job.now tile.0) }
 {
-    let threads = threads_of(alloc, &checked.shape, images, tile)?;
-    let code = code_of(job.codes.as_slice(), checked.read.asms.as_slice(), tile);
-    Tile::of(alloc, &checked.shape, tile, code, threads, Vec::new(alloc))
+    let TileThreads { threads, switches } = TileThreads::of(alloc, job, shape, origin, tile)?;
+    let code = code_of(job.codes.as_slice(), asms, tile);
+    Tile::of(alloc, shape, tile, code, threads, switches)
 }
 
 /// A part of this kind.
 fn part_of(
     alloc: Global,
-    images: &Images,
     job: &Job,
-    checked: &Checked,
+    shape: &Shape,
+    asms: &[CodeSection],
+    origin: &Origin,
     kind: Kind,
 ) -> Result<Part<PlainLink>, AllocError>
-    requires kind { IsThere checked.now.shape kind }
-    requires images { AreImages checked.now.shape.mem job.now.fills images.now }
-    requires checked { IsChecked job.now checked.now }
+    requires kind { IsThere shape.now kind }
+    requires made { IsMadeOf job.now shape.now asms.now origin.now }
     ensures { IfOk result (λ part. part ≡ part_start job.now kind) }
 {
-    let shape = &checked.shape;
     match kind {
-        Kind::Tile(tile) => Ok(Part::tile(tile_of(alloc, images, job, checked, tile)?)),
+        Kind::Tile(tile) => {
+            let tile = tile_of(alloc, job, shape, asms, origin, tile)?;
+            Ok(Part::tile(tile))
+        }
         Kind::Link { .. } => Ok(Part::link(PlainLink::of(alloc, shape.numbers().link)?)),
         Kind::Router(board) => {
-            let beats = table_for(alloc, job, checked.read.tables.as_slice(), board)?;
+            let beats = origin.table(alloc, job, shape, board)?;
             Ok(Part::router(Router::of(shape, board, beats)))
         }
         Kind::Host => {
@@ -98,20 +78,19 @@ fn part_of(
 /// One part for each part of the shape.
 fn parts_of(
     alloc: Global,
-    images: &Images,
     job: &Job,
-    checked: &Checked,
+    shape: &Shape,
+    asms: &[CodeSection],
+    origin: &Origin,
 ) -> Result<Vec<Part<PlainLink>>, AllocError>
-    requires images { AreImages checked.now.shape.mem job.now.fills images.now }
-    requires checked { IsChecked job.now checked.now }
-    ensures { IfOk result (λ all. all.items ≡ map (part_start job.now) (parts checked.now.shape)) }
+    requires made { IsMadeOf job.now shape.now asms.now origin.now }
+    ensures { IfOk result (λ all. all.items ≡ map (part_start job.now) (parts shape.now)) }
 {
-    let shape = &checked.shape;
     law_tiles(shape);
     let count = shape.part_count();
     let mut all = Vec::with_capacity(alloc, count as usize)?;
     for p in 0..count {
-        let part = part_of(alloc, images, job, checked, shape.kind(PartId(p)))?;
+        let part = part_of(alloc, job, shape, asms, origin, shape.kind(PartId(p)))?;
         all.push(part)?;
     }
     Ok(all)
@@ -121,13 +100,19 @@ fn parts_of(
 pub(crate) fn start_of(
     alloc: Global,
     job: &Job,
-    checked: &Checked,
+    checked: Checked,
 ) -> Result<World<PlainLink>, AllocError>
-    requires { IsChecked job.now checked.now }
+    requires { IsChecked job.now checked }
     ensures { IfOk result (λ world. world ≡ start_of job.now) }
 {
-    let mem = checked.shape.numbers().mem;
-    let images = Images::of(alloc, mem, job.fills.as_slice())?;
-    let parts = parts_of(alloc, &images, job, checked)?;
-    World::of(checked.shape, parts)
+    let Checked { shape, read } = checked;
+    let Read {
+        asms,
+        labels,
+        tables,
+        mapped,
+    } = read;
+    let origin = Origin::of(alloc, job, &shape, &labels, tables, mapped)?;
+    let parts = parts_of(alloc, job, &shape, asms.as_slice(), &origin)?;
+    World::of(shape, parts)
 }

@@ -26,7 +26,7 @@ entry_aligned g keys entries state (v ∷ vs) a (suc d) e = entry_aligned g keys
 pub aligned : (g : Graph) (keys : List (List (Option ℕ))) (entries : List (List ℕ)) (vs : List ℕ) → AreAligned entries → AllAligned (devices_from g keys entries 0 vs)
 aligned g keys entries vs a = record { each = entry_aligned g keys entries 0 vs a }
 
-word_bytes : (ws : List ℕ) → length (flat_map (to_le_bytes w32) ws) ≡ 4 * length ws
+pub word_bytes : (ws : List ℕ) → length (flat_map (to_le_bytes w32) ws) ≡ 4 * length ws
 word_bytes [] = refl
 word_bytes (w ∷ ws) = let h = word_bytes ws in ap length (flat_map-cons (to_le_bytes w32) w ws) ∙ omega arith
 

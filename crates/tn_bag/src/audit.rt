@@ -10,10 +10,11 @@ ghost use Rattle.tn_rows.specs.DetectorDeed.{view_of};
 
 use tn_base::shape::Shape;
 use tn_detect::detector::Detector;
-use tn_detect::facts::{Noted, PartView};
+use tn_detect::facts::Noted;
 use tn_detect::phase::Phase;
 use tn_link::link::Link;
 use tn_node::facts::PartFacts;
+use tn_part::detector::view_of;
 use tn_part::part::Part;
 use tn_rest::facts::Facts;
 use tn_rest::machine::Machine;
@@ -113,15 +114,10 @@ fn facts_on<L: Link>(part: &Part<L>) -> Facts
 fn shown(facts: &PartFacts, held: bool) -> Facts
     ensures { result ≡ record { view = view_of facts.now; held = held } }
 {
-    let view = PartView {
-        still: facts.still,
-        black: facts.black,
-        counter: facts.counter,
-        live: facts.live,
-        votes: facts.votes,
-        at_end: facts.at_end,
-    };
-    Facts { view, held }
+    Facts {
+        view: view_of(facts),
+        held,
+    }
 }
 
 /// How many packets are on a link.

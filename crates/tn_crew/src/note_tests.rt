@@ -1,8 +1,8 @@
 //! Which notes come back to which share.
 
 use crate::notes::Notes;
-use crate::share::Share;
 use std::test::Fail;
+use tn_agenda::share::Share;
 
 fn is_sync<T: Sync>(_value: &T) {}
 

@@ -1,12 +1,12 @@
 //! Notes between workers.
 
 ghost use Rattle.std.specs.Prelude.{IfSome};
-ghost use Rattle.tn_crew.specs.Shares.{IsOf};
+ghost use Rattle.tn_agenda.specs.Shares.{IsOf};
 
-use crate::share::Share;
 use crossbeam_utils::CachePadded;
 use std::alloc::{AllocError, Global};
 use std::sync::atomic::{AtomicU64, Ordering};
+use tn_agenda::share::Share;
 
 /// A mark for each stop, which any worker may set or clear. Each 64 marks have cache lines of their own.
 #[derive(Drop)]

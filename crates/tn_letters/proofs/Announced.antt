@@ -25,12 +25,13 @@ use Rattle.tn_rows.specs.Places.{detector_part}
 use Rattle.tn_rows.specs.WorldView.{WorldView}
 use Rattle.tn_tile.specs.Rows.{told}
 use Rattle.tn_tile.specs.Step.{no_thread, thread_at}
+use Rattle.tn_rows.specs.Visited.{released_part}
 use Rattle.tn_letters.specs.declared.place.Place.{Place}
 use Rattle.tn_letters.specs.declared.steps.BagStep.{BagStep}
 use Rattle.tn_letters.specs.AtRest.{IsResting, told_value, voted}
 use Rattle.tn_letters.specs.Law.{dropped_in}
 use Rattle.tn_letters.specs.Machine.{announced, answer}
-use Rattle.tn_letters.specs.Settled.{detector_in, detector_on, released_from, released_part, settled, settled_in}
+use Rattle.tn_letters.specs.Settled.{detector_in, detector_on, released_from, settled, settled_in}
 use Rattle.tn_letters.specs.Standing.{standing, standing_letters}
 use Rattle.tn_letters.specs.State.{Same}
 use Rattle.tn_letters.specs.Steps.{event_steps, part_steps}

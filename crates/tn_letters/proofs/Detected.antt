@@ -38,29 +38,12 @@ use Rattle.tn_tile.specs.Rows.{gone_on, released as tile_released, tile_deed, ti
 use Rattle.tn_tile.specs.declared.state.TileState.{TileState}
 use Rattle.tn_tile.specs.TileView.{TileView, now_by, with_now}
 use Rattle.tn_tile.proofs.Deeds.{confirm_deed, go_deed, release_deed, report_deed}
-use Rattle.tn_letters.specs.Settled.{released_part}
+use Rattle.tn_rows.specs.Visited.{going_part, released_part, whitened_part}
 use Rattle.tn_letters.proofs.Bare.{with_parts}
 use Rattle.tn_letters.proofs.Walks.{on_read}
 use Rattle.tn_letters.proofs.Lift.{Good, OnPart, StandsAt, stands_on}
 
 -- ---- what a part becomes
-
--- a part that reported, and a part that goes on
-abbrev pub whitened_part : PartView → PartView
-whitened_part (TileV v) = TileV (with_now v (tile_whitened v.now))
-whitened_part (RouterV v) = RouterV (router_with_now v (router_whitened v.now))
-whitened_part (LinkV v) = LinkV v
-whitened_part (HostV s) = HostV (host_whitened s)
-whitened_part (DetectorV v) = DetectorV v
-whitened_part AbsentV = AbsentV
-
-abbrev pub going_part : PartView → PartView
-going_part (TileV v) = TileV (with_now v (gone_on v.now))
-going_part (RouterV v) = RouterV (router_with_now v (router_gone_on v.now))
-going_part (LinkV v) = LinkV v
-going_part (HostV s) = HostV (host_gone_on s)
-going_part (DetectorV v) = DetectorV v
-going_part AbsentV = AbsentV
 
 tile_made : (d : Deed) (v : TileView) (y : PartView) (s : TileState) → ((t : TileState) → tile_deed v.plan d v.now ≡ Some t → t ≡ s) → option_map TileV (now_by v (tile_deed v.plan d v.now)) ≡ Some y → y ≡ TileV (with_now v s)
 tile_made d v y s is h =

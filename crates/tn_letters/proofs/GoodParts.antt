@@ -32,11 +32,12 @@ use Rattle.tn_rows.specs.WorldView.{WorldView}
 use Rattle.tn_tile.specs.Rows.{gone_on, released as tile_released, tile_facts, tile_whitened}
 use Rattle.tn_tile.specs.TileView.{with_now}
 use Rattle.tn_tile.proofs.Deeds.{deed_fits, tells_own}
+use Rattle.tn_rows.specs.Visited.{going_part, released_part, whitened_part}
 use Rattle.tn_letters.specs.Law.{IsSendable}
-use Rattle.tn_letters.specs.Settled.{detector_on, released_from, released_part, settled, settled_in}
+use Rattle.tn_letters.specs.Settled.{detector_on, released_from, settled, settled_in}
 use Rattle.tn_letters.specs.Tiles.{beats_on, tables_of}
 use Rattle.tn_letters.proofs.Bare.{with_parts, tables_match}
-use Rattle.tn_letters.proofs.Detected.{Alone, Paired, alone, confirm_paired, go_paired, going_part, release_paired, report_paired, whitened_part}
+use Rattle.tn_letters.proofs.Detected.{Alone, Paired, alone, confirm_paired, go_paired, release_paired, report_paired}
 use Rattle.tn_letters.proofs.Lift.{Good, GoodPart, OnPart, StandsAt, good_now, good_with, part_on, stands_on, still_tile}
 use Rattle.tn_letters.proofs.Routers.{still_router}
 use Rattle.tn_letters.proofs.Settling.{settled_length, released_before, released_behind, settled_stays, stays_beats}

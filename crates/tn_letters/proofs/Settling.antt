@@ -8,8 +8,9 @@ use Rattle.tn_detect.specs.Notes.{value_of}
 use Rattle.tn_keys.specs.Reach.{Reach}
 use Rattle.tn_rows.specs.PartView.{PartView, TileV, RouterV, LinkV, HostV, DetectorV, AbsentV}
 use Rattle.tn_rows.specs.WorldView.{WorldView}
+use Rattle.tn_rows.specs.Visited.{released_part}
 use Rattle.tn_letters.specs.Law.{dropped_on}
-use Rattle.tn_letters.specs.Settled.{detector_on, released_from, released_part, settled, settled_in}
+use Rattle.tn_letters.specs.Settled.{detector_on, released_from, settled, settled_in}
 use Rattle.tn_letters.specs.Standing.{bag_at, part_standing}
 use Rattle.tn_letters.specs.Tiles.{beats_on, held_in, host_in, host_on, program_of, thread_of, tile_in}
 use Rattle.tn_letters.proofs.Bare.{Means, dropped_match, flight_match, held_match, program_match}

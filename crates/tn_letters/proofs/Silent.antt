@@ -24,9 +24,10 @@ use Rattle.tn_rows.specs.Events.{FitsKind}
 use Rattle.tn_rows.specs.PartView.{PartView, TileV, RouterV, LinkV, HostV, DetectorV, AbsentV}
 use Rattle.tn_rows.specs.Places.{detector_part}
 use Rattle.tn_rows.specs.WorldView.{WorldView}
-use Rattle.tn_letters.specs.Settled.{detector_in, detector_on, released_from, released_part, settled, settled_in}
+use Rattle.tn_rows.specs.Visited.{going_part, released_part, whitened_part}
+use Rattle.tn_letters.specs.Settled.{detector_in, detector_on, released_from, settled, settled_in}
 use Rattle.tn_letters.proofs.Bare.{Alike, bare, with_parts}
-use Rattle.tn_letters.proofs.Detected.{Alone, Paired, going_part, whitened_part}
+use Rattle.tn_letters.proofs.Detected.{Alone, Paired}
 use Rattle.tn_letters.proofs.Lift.{Good, OnPart, StandsAt}
 use Rattle.tn_letters.proofs.Settling.{released_before, released_behind, released_length}
 

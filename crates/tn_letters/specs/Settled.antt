@@ -6,23 +6,10 @@ use Rattle.tn_detect.specs.declared.phase.Phase.TheVariants as phase
 use Rattle.tn_detect.specs.declared.state.DetectorState.{DetectorState}
 use Rattle.tn_detect.specs.DetectorView.{fresh_state}
 use Rattle.tn_detect.specs.Notes.{value_of}
-use Rattle.tn_host.specs.Rows.{released as host_released}
-use Rattle.tn_router.specs.Rows.{released as router_released}
-use Rattle.tn_router.specs.RouterView.{with_now as router_with_now}
 use Rattle.tn_rows.specs.PartView.{PartView, TileV, RouterV, LinkV, HostV, DetectorV, AbsentV}
 use Rattle.tn_rows.specs.Places.{detector_part}
+use Rattle.tn_rows.specs.Visited.{released_part}
 use Rattle.tn_rows.specs.WorldView.{WorldView}
-use Rattle.tn_tile.specs.Rows.{released as tile_released}
-use Rattle.tn_tile.specs.TileView.{with_now}
-
--- a part after its release with this value
-abbrev pub released_part : ℕ → PartView → PartView
-released_part value (TileV v) = TileV (with_now v (tile_released value v.now))
-released_part value (RouterV v) = RouterV (router_with_now v (router_released v.now))
-released_part value (LinkV v) = LinkV v
-released_part value (HostV s) = HostV (host_released s)
-released_part value (DetectorV v) = DetectorV v
-released_part value AbsentV = AbsentV
 
 -- the parts once those from number i on are released
 abbrev pub released_from : ℕ → ℕ → List PartView → List PartView

@@ -1,6 +1,7 @@
 pub mod Crossings
-pub mod Growing
-pub mod Joined
+pub mod Listed
+pub mod Rests
 pub mod Sites
+pub mod Standing
 pub mod Steps
 pub mod Visits

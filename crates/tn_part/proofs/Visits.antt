@@ -30,7 +30,8 @@ use Rattle.tn_part.proofs.Crossings.{did_both}
 use Rattle.tn_part.specs.declared.visit.Visit.{Visit}
 use Rattle.tn_part.specs.declared.visit.Visit.TheVariants as visit
 use Rattle.tn_part.specs.Joint.{DoesBoth}
-use Rattle.tn_part.specs.Visits.{gone_on, released, visit_event, visit_row, visited_by, whitened}
+use Rattle.tn_rows.specs.Visited.{going_part, released_part, whitened_part}
+use Rattle.tn_part.specs.Visits.{visit_event, visit_row, visited_by}
 
 -- the parts of a visit
 pub visit_is : (w : WorldView) (v : Visit) (p : PartId) → happened (visit_event v p) w ≡ happened_at (visit_event v p) w (two_if (ltb p.0 (visited w.shape)) p.0 (detector_part w.shape))
@@ -64,15 +65,15 @@ still_is : {S : Type 0} (own : PartFacts) (value : ℕ) (new : S) → if_still o
 still_is own value new = ap (λ b. cond (b && own.still) (Some new) None) (agrees own value)
 
 -- a part reports if it is still
-low_report : (p : PartId) (value : ℕ) (low : PartView) (f : PartFacts) → told_by low ≡ Some f → after (event.Report p) (crossing.View (answered f value)) low ≡ cond f.still (Some (whitened low)) None
-low_report p value (TileV v) f e = subst (λ (f : PartFacts). after (event.Report p) (crossing.View (answered f value)) (TileV v) ≡ cond f.still (Some (whitened (TileV v))) None) (told_is (tile_facts v.now) f e)
+low_report : (p : PartId) (value : ℕ) (low : PartView) (f : PartFacts) → told_by low ≡ Some f → after (event.Report p) (crossing.View (answered f value)) low ≡ cond f.still (Some (whitened_part low)) None
+low_report p value (TileV v) f e = subst (λ (f : PartFacts). after (event.Report p) (crossing.View (answered f value)) (TileV v) ≡ cond f.still (Some (whitened_part (TileV v))) None) (told_is (tile_facts v.now) f e)
     (ap (λ o. option_map TileV (now_by v o)) (still_is (tile_facts v.now) value (tile_whitened v.now))
     ∙ ap (λ o. option_map TileV o) (map_if _ (tile_facts v.now).still (tile_whitened v.now)) ∙ map_if TileV (tile_facts v.now).still _)
-low_report p value (RouterV v) f e = subst (λ (f : PartFacts). after (event.Report p) (crossing.View (answered f value)) (RouterV v) ≡ cond f.still (Some (whitened (RouterV v))) None) (told_is (router_facts v.now) f e)
+low_report p value (RouterV v) f e = subst (λ (f : PartFacts). after (event.Report p) (crossing.View (answered f value)) (RouterV v) ≡ cond f.still (Some (whitened_part (RouterV v))) None) (told_is (router_facts v.now) f e)
     (ap (λ o. option_map RouterV (router_now_by v o)) (still_is (router_facts v.now) value (router_whitened v.now))
     ∙ ap (λ o. option_map RouterV o) (map_if _ (router_facts v.now).still (router_whitened v.now)) ∙ map_if RouterV (router_facts v.now).still _)
 low_report p value (LinkV v) f e = cc e
-low_report p value (HostV s) f e = subst (λ (f : PartFacts). after (event.Report p) (crossing.View (answered f value)) (HostV s) ≡ cond f.still (Some (whitened (HostV s))) None) (told_is (host_facts s) f e)
+low_report p value (HostV s) f e = subst (λ (f : PartFacts). after (event.Report p) (crossing.View (answered f value)) (HostV s) ≡ cond f.still (Some (whitened_part (HostV s))) None) (told_is (host_facts s) f e)
     (ap (λ o. option_map HostV o) (still_is (host_facts s) value (host_whitened s)) ∙ map_if HostV (host_facts s).still (host_whitened s))
 low_report p value (DetectorV v) f e = cc e
 low_report p value AbsentV f e = cc e
@@ -86,19 +87,19 @@ low_confirm p value (HostV s) f e = subst (λ (f : PartFacts). after (event.Conf
 low_confirm p value (DetectorV v) f e = cc e
 low_confirm p value AbsentV f e = cc e
 
-low_release : (p : PartId) (value : ℕ) (low : PartView) (f : PartFacts) → told_by low ≡ Some f → after (event.Release p) (crossing.View (answered f value)) low ≡ Some (released value low)
-low_release p value (TileV v) f e = subst (λ (f : PartFacts). after (event.Release p) (crossing.View (answered f value)) (TileV v) ≡ Some (released value (TileV v))) (told_is (tile_facts v.now) f e) (ap (λ o. option_map TileV (now_by v o)) (own_given (tile_facts v.now) value (tile_released value v.now)))
-low_release p value (RouterV v) f e = subst (λ (f : PartFacts). after (event.Release p) (crossing.View (answered f value)) (RouterV v) ≡ Some (released value (RouterV v))) (told_is (router_facts v.now) f e) (ap (λ o. option_map RouterV (router_now_by v o)) (own_given (router_facts v.now) value (router_released v.now)))
+low_release : (p : PartId) (value : ℕ) (low : PartView) (f : PartFacts) → told_by low ≡ Some f → after (event.Release p) (crossing.View (answered f value)) low ≡ Some (released_part value low)
+low_release p value (TileV v) f e = subst (λ (f : PartFacts). after (event.Release p) (crossing.View (answered f value)) (TileV v) ≡ Some (released_part value (TileV v))) (told_is (tile_facts v.now) f e) (ap (λ o. option_map TileV (now_by v o)) (own_given (tile_facts v.now) value (tile_released value v.now)))
+low_release p value (RouterV v) f e = subst (λ (f : PartFacts). after (event.Release p) (crossing.View (answered f value)) (RouterV v) ≡ Some (released_part value (RouterV v))) (told_is (router_facts v.now) f e) (ap (λ o. option_map RouterV (router_now_by v o)) (own_given (router_facts v.now) value (router_released v.now)))
 low_release p value (LinkV v) f e = cc e
-low_release p value (HostV s) f e = subst (λ (f : PartFacts). after (event.Release p) (crossing.View (answered f value)) (HostV s) ≡ Some (released value (HostV s))) (told_is (host_facts s) f e) (ap (λ o. option_map HostV o) (own_given (host_facts s) value (host_released s)))
+low_release p value (HostV s) f e = subst (λ (f : PartFacts). after (event.Release p) (crossing.View (answered f value)) (HostV s) ≡ Some (released_part value (HostV s))) (told_is (host_facts s) f e) (ap (λ o. option_map HostV o) (own_given (host_facts s) value (host_released s)))
 low_release p value (DetectorV v) f e = cc e
 low_release p value AbsentV f e = cc e
 
-low_go : (p : PartId) (value : ℕ) (low : PartView) (f : PartFacts) → told_by low ≡ Some f → after (event.Go p) (crossing.View (answered f value)) low ≡ Some (gone_on low)
-low_go p value (TileV v) f e = subst (λ (f : PartFacts). after (event.Go p) (crossing.View (answered f value)) (TileV v) ≡ Some (gone_on (TileV v))) (told_is (tile_facts v.now) f e) (ap (λ o. option_map TileV (now_by v o)) (own_given (tile_facts v.now) value (tile_gone_on v.now)))
-low_go p value (RouterV v) f e = subst (λ (f : PartFacts). after (event.Go p) (crossing.View (answered f value)) (RouterV v) ≡ Some (gone_on (RouterV v))) (told_is (router_facts v.now) f e) (ap (λ o. option_map RouterV (router_now_by v o)) (own_given (router_facts v.now) value (router_gone_on v.now)))
+low_go : (p : PartId) (value : ℕ) (low : PartView) (f : PartFacts) → told_by low ≡ Some f → after (event.Go p) (crossing.View (answered f value)) low ≡ Some (going_part low)
+low_go p value (TileV v) f e = subst (λ (f : PartFacts). after (event.Go p) (crossing.View (answered f value)) (TileV v) ≡ Some (going_part (TileV v))) (told_is (tile_facts v.now) f e) (ap (λ o. option_map TileV (now_by v o)) (own_given (tile_facts v.now) value (tile_gone_on v.now)))
+low_go p value (RouterV v) f e = subst (λ (f : PartFacts). after (event.Go p) (crossing.View (answered f value)) (RouterV v) ≡ Some (going_part (RouterV v))) (told_is (router_facts v.now) f e) (ap (λ o. option_map RouterV (router_now_by v o)) (own_given (router_facts v.now) value (router_gone_on v.now)))
 low_go p value (LinkV v) f e = cc e
-low_go p value (HostV s) f e = subst (λ (f : PartFacts). after (event.Go p) (crossing.View (answered f value)) (HostV s) ≡ Some (gone_on (HostV s))) (told_is (host_facts s) f e) (ap (λ o. option_map HostV o) (own_given (host_facts s) value (host_gone_on s)))
+low_go p value (HostV s) f e = subst (λ (f : PartFacts). after (event.Go p) (crossing.View (answered f value)) (HostV s) ≡ Some (going_part (HostV s))) (told_is (host_facts s) f e) (ap (λ o. option_map HostV o) (own_given (host_facts s) value (host_gone_on s)))
 low_go p value (DetectorV v) f e = cc e
 low_go p value AbsentV f e = cc e
 
@@ -126,10 +127,10 @@ high_go p d f = ap (λ o. option_map DetectorV (detector_now_by d o)) (crosses (
 
 -- a part after its side of a visit
 abbrev low_row : Visit → ℕ → PartFacts → PartView → Option PartView
-low_row visit.Report value f low = cond f.still (Some (whitened low)) None
+low_row visit.Report value f low = cond f.still (Some (whitened_part low)) None
 low_row visit.Confirm value f low = Some low
-low_row visit.Release value f low = Some (released value low)
-low_row visit.Go value f low = Some (gone_on low)
+low_row visit.Release value f low = Some (released_part value low)
+low_row visit.Go value f low = Some (going_part low)
 
 meets_by : (e : Event) (low high : PartView) (a b c d : Option PartView) → meets e low high ≡ met_by a b → a ≡ c → b ≡ d → meets e low high ≡ met_by c d
 meets_by e low high a b c d m s t = m ∙ ap (λ o. met_by o b) s ∙ ap (λ o. met_by c o) t
@@ -165,7 +166,7 @@ both_still false still r o t e = cc e
 low_done : (v : Visit) (i value : ℕ) (low : PartView) (d t : DetectorView) (f : PartFacts) → detector_now_by d (visit_row v d.visited i (view_of f) d.now) ≡ Some t → low_row v value f low ≡ Some (visited_by v value low)
 low_done visit.Report i value low d t f e =
     let m = mapped _ (report_row i (view_of f) d.now) t e in
-    ap (λ b. cond b (Some (whitened low)) None) (both_still (is_collect d.now.phase) f.still (is_none (report_at d.now.reports i) || f.black) _ m.0 m.1)
+    ap (λ b. cond b (Some (whitened_part low)) None) (both_still (is_collect d.now.phase) f.still (is_none (report_at d.now.reports i) || f.black) _ m.0 m.1)
 low_done visit.Confirm i value low d t f e = refl
 low_done visit.Release i value low d t f e = refl
 low_done visit.Go i value low d t f e = refl

@@ -1,4 +1,4 @@
-pub mod Doing
+pub mod First
 pub mod Joint
 pub mod Meeting
 pub mod Sites

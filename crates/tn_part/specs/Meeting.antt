@@ -1,5 +1,5 @@
 -- What an event on two parts asks of them.
-use Rattle.std.specs.Prelude.{Bool, Option, Some, None, nat_lt, if◌then◌else◌}
+use Rattle.std.specs.Prelude.{ℕ, Bool, Option, Some, None, nat_lt, if◌then◌else◌}
 use Rattle.tn_base.specs.declared.event.Event.{Event}
 use Rattle.tn_base.specs.declared.event.Event.TheVariants as event
 use Rattle.tn_base.specs.declared.port.Port.{Port}
@@ -42,6 +42,12 @@ port_of n (event.Confirm p) = port_if (nat_lt p.0 (visited n)) port.Here
 port_of n (event.Release p) = port_if (nat_lt p.0 (visited n)) port.Here
 port_of n (event.Go p) = port_if (nat_lt p.0 (visited n)) port.Here
 port_of n _ = None
+
+-- the part of an event on one part, if the machine has such a part
+abbrev pub one_place : Places → Option ℕ
+one_place Nowhere = None
+one_place (One p) = Some p
+one_place (Two p q) = None
 
 -- the parts of an event on two parts are what the shape names at their places
 abbrev pub FitTwo : ShapeNumbers → Places → PartView → PartView → Type 0

@@ -12,7 +12,8 @@ ghost use Rattle.tn_stamp.specs.declared.entry.Crossing.TheVariants as crossing;
 ghost use Rattle.tn_tile.specs.Turns.{moved};
 ghost use Rattle.tn_part.specs.Joint.{DoesBoth};
 ghost use Rattle.tn_rows.specs.Roles.{Visits};
-ghost use Rattle.tn_part.specs.Visits.{gone_on, released, visit_event, visit_row, visited_by, whitened};
+ghost use Rattle.tn_part.specs.Visits.{visit_event, visit_row, visited_by};
+ghost use Rattle.tn_rows.specs.Visited.{going_part, released_part, whitened_part};
 
 use crate::part::{Contents, Part};
 use crate::visit::Visit;
@@ -26,7 +27,7 @@ use tn_node::facts::PartFacts;
 use tn_tile::deliver::Did;
 
 /// What a part tells the detector, without the detector's answer.
-fn view_of(facts: &PartFacts) -> PartView
+pub fn view_of(facts: &PartFacts) -> PartView
     ensures { result ≡ view_of facts.now }
 {
     PartView {
@@ -174,7 +175,7 @@ impl<L: Link> Part<L> {
 
     /// The part has reported.
     fn whiten(&mut self)
-        ensures { self.new ≡ whitened self.old }
+        ensures { self.new ≡ whitened_part self.old }
     {
         match &mut self.contents {
             Contents::Tile(tile) => tile.whiten(),
@@ -186,7 +187,7 @@ impl<L: Link> Part<L> {
 
     /// The part is released, and its idle threads learn the answer.
     fn release(&mut self, value: u32)
-        ensures { self.new ≡ released value self.old }
+        ensures { self.new ≡ released_part value self.old }
     {
         match &mut self.contents {
             Contents::Tile(tile) => tile.release(value),
@@ -198,7 +199,7 @@ impl<L: Link> Part<L> {
 
     /// The part goes on.
     fn go(&mut self)
-        ensures { self.new ≡ gone_on self.old }
+        ensures { self.new ≡ going_part self.old }
     {
         match &mut self.contents {
             Contents::Tile(tile) => tile.go(),

@@ -129,6 +129,7 @@ impl<L: Link> Part<L> {
     }
 
     /// What the part is.
+    #[inline(always)]
     pub fn contents(&self) -> &Contents<L>
         ensures { view_of L.content result.now ≡ self.now }
     {
@@ -217,6 +218,7 @@ impl<L: Link> Part<L> {
     }
 
     /// The longest turn of a thread with pages of a full stock, and whether it ends a run.
+    #[inline(always)]
     pub fn turn(&mut self, t: ThreadId, stock: &mut PageStock) -> LastTurn
         requires { 64 ≤ stock.old }
         ensures turn { TurnsPart result.turned t self.old self.new }
@@ -253,6 +255,7 @@ impl<L: Link> Part<L> {
     }
 
     /// Delivers a thread's packet.
+    #[inline(always)]
     pub fn deliver(&mut self, t: ThreadId) -> Did
         ensures { Does (moved result) (after (event.Deliver t) crossing.None self.old) self.old self.new }
     {
@@ -316,6 +319,7 @@ impl<L: Link> Part<L> {
     }
 
     /// Whether a link has a packet here.
+    #[inline(always)]
     pub fn carries(&self) -> bool
         ensures { result ≡ is_some (carried self.now) }
     {
@@ -362,6 +366,7 @@ impl<L: Link> Part<L> {
 
 impl<L: Link> Part<L> {
     /// How a run ends with this event, after which the event's own part is this one, if the event is final.
+    #[inline(always)]
     pub fn final_on(&self, e: &Event) -> Option<Outcome>
         ensures { result ≡ final_on e.now self.now }
     {

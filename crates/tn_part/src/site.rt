@@ -1,12 +1,13 @@
 //! What stands at each place of a machine, kept so that no event asks the shape for it.
 
-ghost use Rattle.std.specs.Prelude.{◌≡◌, IfOk, MatchOption, None, Some, if◌then◌else◌};
+ghost use Rattle.std.specs.Prelude.{◌≡◌, IfOk, MatchOption, None, Some, option_map, if◌then◌else◌};
 ghost use Rattle.tn_base.specs.declared.part.Kind.TheVariants as kind;
 ghost use Rattle.tn_base.specs.Parts.{kind_of};
-ghost use Rattle.tn_rows.specs.Places.{leads_from, leads_to, link_side, link_way, side_between, way_between};
-ghost use Rattle.tn_part.specs.Meeting.{port_of};
+ghost use Rattle.tn_rows.specs.Places.{is_router, leads_from, leads_to, link_side, link_way, places, side_between, way_between};
+ghost use Rattle.tn_part.specs.Meeting.{one_place, port_of};
 ghost use Rattle.tn_part.specs.Sites.{site_of, sites};
 
+use crate::place::{detector, part_of};
 use std::alloc::{AllocError, Global};
 use std::marker::Model;
 use tn_base::event::Event;
@@ -114,6 +115,35 @@ impl Sites {
 }
 
 impl Sites {
+    /// The place of an event on one part, if the machine has such a part.
+    pub fn place_of(&self, e: &Event) -> Option<PartId>
+        ensures { option_map (λ p. p.0) result ≡ one_place (places self.now e.now) }
+    {
+        match *e {
+            Event::Turn(t, _) | Event::Deliver(t) => part_of(&self.shape, t),
+            Event::Route(p) => self.router_at(p),
+            Event::Begin | Event::Announce => Some(detector(&self.shape)),
+            Event::Depart(_, _)
+            | Event::Arrive(_, _)
+            | Event::HostPut
+            | Event::HostTake
+            | Event::Report(_)
+            | Event::Confirm(_)
+            | Event::Release(_)
+            | Event::Go(_) => None,
+        }
+    }
+
+    /// The same place, if a router stands there.
+    fn router_at(&self, p: PartId) -> Option<PartId>
+        ensures { result ≡ (if is_router (kind_of self.now p.0) then Some p else None) }
+    {
+        match self.site(p)?.kind {
+            Kind::Router(_) => Some(p),
+            Kind::Host | Kind::Tile(_) | Kind::Link { .. } | Kind::Detector => None,
+        }
+    }
+
     /// The port at which the parts of an event on two parts are joined, if the machine has two such parts.
     pub fn port_of(&self, e: &Event) -> Option<Port>
         ensures { result ≡ port_of self.now e.now }

@@ -8,4 +8,5 @@ pub mod Places
 pub mod Roles
 pub mod Runs
 pub mod Stamped
+pub mod Visited
 pub mod WorldView

@@ -20,9 +20,10 @@ use Rattle.tn_tile.specs.declared.deliver.Did.{Did}
 use Rattle.tn_tile.specs.declared.deliver.Did.TheVariants as did_as
 use Rattle.tn_tile.specs.Turns.{moved}
 use Rattle.tn_part.proofs.Crossings.{does_some}
-use Rattle.tn_world.proofs.Listed.{first_some, is_here}
+use Rattle.tn_part.proofs.Listed.{first_some, is_here}
 use Rattle.tn_world.specs.declared.play.Made.{Made}
-use Rattle.tn_world.specs.Plays.{First, Makes, MakesOr, Played, Reached, Told}
+use Rattle.tn_part.specs.First.{First}
+use Rattle.tn_world.specs.Plays.{Makes, MakesOr, Played, Reached, Told}
 
 -- each event is enabled in turn, turns are the longest, and none is final
 abbrev pub Calm : WorldView → List Event → WorldView → Type 0

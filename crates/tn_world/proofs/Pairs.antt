@@ -1,17 +1,16 @@
 -- Events on two parts of a machine.
-use Rattle.std.proofs.Common.{◌≡◌, ◌∙◌, ℕ, zero, suc, ◌<◌, ◌≢◌, ◌++◌, Bool, true, false, List, [], ◌∷◌, None, Some, refl, ap, subst, sym, get_or, set, length, take, drop, is_some, option_map, append-nil, arith, slice_get}
+use Rattle.std.proofs.Common.{◌≡◌, ◌∙◌, ℕ, zero, suc, ◌<◌, ◌≢◌, ◌++◌, Bool, true, false, List, [], ◌∷◌, None, Some, refl, ap, subst, sym, get_or, set, length, take, drop, option_map, append-nil, arith, slice_get}
 use Rattle.std.specs.declared.option.Option.{Option}
 use Rattle.std.specs.declared.result.Result.{Result}
 use Rattle.std.specs.declared.result.Result.TheVariants.{Ok, Err}
 use Rattle.std.specs.declared.alloc.AllocError.{AllocError}
 use Rattle.std.specs.Prelude.{MatchResult}
-use Rattle.std.proofs.lemmas.List.{drop_all, get_or_default, length-set, set-append_left, set-get_or, take_all}
+use Rattle.std.proofs.lemmas.List.{drop_all, length-set, set-append_left, set-get_or, take_all}
 use Rattle.std.proofs.lemmas.Option.{get_or_from_slice_get}
 use Rattle.tn_base.specs.declared.event.Event.{Event}
 use Rattle.tn_base.specs.Does.{Does}
-use Rattle.tn_rows.proofs.Meeting.{some_mapped}
 use Rattle.tn_rows.specs.Events.{IsWorld, Met, happened_at, meets, meets_at, with_both}
-use Rattle.tn_rows.specs.PartView.{PartView, AbsentV}
+use Rattle.tn_rows.specs.PartView.{PartView}
 use Rattle.tn_rows.specs.Places.{two_if}
 use Rattle.tn_rows.specs.WorldView.{WorldView}
 use Rattle.tn_tile.specs.declared.deliver.Did.{Did}
@@ -131,15 +130,3 @@ pub both_keeps_or : (w : WorldView) (e : Event) (p q : ℕ) (new : List PartView
     MatchResult r (λ did. Does (moved did) (option_map (set_both w.parts p q) (meets_at e (slice_get w.parts p) (slice_get w.parts q))) w.parts new) (λ _. new ≡ w.parts) → IsWorld w → IsWorld (record w { parts = new })
 both_keeps_or w e p q new (Ok did) less d i = both_keeps w e p q new (moved did) less d i
 both_keeps_or w e p q new (Err x) less d i = subst (λ ps. IsWorld (record w { parts = ps })) (sym d) i
-
--- whether an event on two parts can happen
-pub can_both : (w : WorldView) (e : Event) (there : Bool) (p q : ℕ) (low high : PartView) → there ≡ true → slice_get w.parts p ≡ Some low → slice_get w.parts q ≡ Some high → is_some (happened_at e w (two_if there p q)) ≡ is_some (meets e low high)
-can_both w e there p q low high is a b =
-    ap (λ there. is_some (happened_at e w (two_if there p q))) is
-    ∙ ap (λ o. is_some (option_map (with_both w p q) (meets_at e o (slice_get w.parts q)))) a
-    ∙ ap (λ o. is_some (option_map (with_both w p q) (meets_at e (Some low) o))) b
-    ∙ some_mapped (with_both w p q) (meets e low high)
-
--- what indexing saw
-pub seen : (xs : List PartView) (k : ℕ) (x : PartView) → k < length xs → x ≡ get_or xs k x → get_or xs k AbsentV ≡ x
-seen xs k x within is = sym (is ∙ get_or_default xs k x AbsentV within)

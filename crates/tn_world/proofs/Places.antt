@@ -1,17 +1,15 @@
 -- Events by the part that they are on.
-use Rattle.std.proofs.Common.{◌≡◌, ◌∙◌, ℕ, Bool, true, false, None, Some, refl, ap, subst, sym, get_or, set, length, ◌<◌, is_some, MatchResult, option_and_then, option_map}
+use Rattle.std.proofs.Common.{◌≡◌, ◌∙◌, ℕ, Bool, None, Some, refl, ap, subst, sym, get_or, set, length, ◌<◌, MatchResult, option_and_then, option_map}
 use Rattle.std.specs.declared.option.Option.{Option}
 use Rattle.std.specs.List.{slice_get}
 use Rattle.std.proofs.lemmas.List.{get_or-set_same, length-set, set-get_or}
-use Rattle.std.proofs.lemmas.Option.{get_or_from_slice_get, slice_get_read}
+use Rattle.std.proofs.lemmas.Option.{slice_get_read}
 use Rattle.tn_base.specs.declared.event.Event.{Event}
 use Rattle.tn_base.specs.Does.{Does}
-use Rattle.tn_base.specs.Parts.{kind_of, part_count}
+use Rattle.tn_base.specs.Parts.{kind_of}
 use Rattle.tn_base.specs.declared.event.Event.TheVariants as event
 use Rattle.tn_base.specs.declared.ids.PartId.{PartId}
 use Rattle.tn_base.specs.declared.ids.ThreadId.{ThreadId}
-use Rattle.tn_base.specs.declared.part.Kind.{Kind}
-use Rattle.tn_base.specs.declared.part.Kind.TheVariants as kind
 use Rattle.tn_base.specs.declared.shape.ShapeNumbers.{ShapeNumbers}
 use Rattle.std.specs.declared.result.Result.{Result}
 use Rattle.std.specs.declared.result.Result.TheVariants.{Ok, Err}
@@ -23,13 +21,13 @@ use Rattle.tn_tile.specs.Turns.{moved}
 use Rattle.tn_world.specs.Plays.{Turns, TurnsUpTo}
 use Rattle.tn_part.specs.Turning.{TurnsPart, TurnsUpTo as PartTurnsUpTo}
 use Rattle.tn_rows.specs.Ends.{ended_on, final_of}
-use Rattle.tn_rows.specs.Events.{after, happened, happened_at, with_part, FitsKind, IsWorld}
-use Rattle.tn_rows.specs.Places.{One, at_part, is_router, one_if, part_of, places}
+use Rattle.tn_rows.specs.Events.{after, happened, with_part, FitsKind, IsWorld}
+use Rattle.tn_rows.specs.Places.{One, at_part, part_of, places}
 use Rattle.tn_stamp.specs.declared.entry.Crossing.TheVariants as crossing
-use Rattle.tn_rows.specs.PartView.{PartView, TileV, RouterV, LinkV, HostV, DetectorV, AbsentV}
+use Rattle.tn_rows.specs.PartView.{PartView}
 use Rattle.tn_rows.specs.WorldView.{WorldView}
-use Rattle.tn_rows.proofs.Meeting.{some_mapped}
 use Rattle.tn_rows.proofs.Keeping.{kind_stays, world_keeps}
+use Rattle.tn_part.proofs.Standing.{placed, routed}
 
 -- what stands at a place of a machine
 pub record At (w : WorldView) (p : ℕ) (part : PartView) : Type 0 where
@@ -41,9 +39,7 @@ read w p part a = slice_get_read w.parts (length w.parts) p part refl a.within a
 
 -- a thread's events by their part
 pub at_place : (w : WorldView) (e : Event) (p : ℕ) (part : PartView) → places w.shape e ≡ One p → At w p part → happened e w ≡ option_map (with_part w p) (after e crossing.None part)
-at_place w e p part here a =
-    ap (λ q. happened_at e w q) here
-    ∙ ap (λ (o : Option PartView). option_map (with_part w p) (option_and_then (after e crossing.None) o)) (read w p part a)
+at_place w e p part here a = placed w e p part here (read w p part a)
 
 pub one_place : (n : ShapeNumbers) (t : ThreadId) (p : ℕ) → part_of n t ≡ Some p → at_part (part_of n t) ≡ One p
 one_place n t p e = ap at_part e
@@ -125,40 +121,9 @@ pub does_or_keeps : (w : WorldView) (e : Event) (p : ℕ) (old new : PartView) (
 does_or_keeps w e p old new (Ok did) a d i = does_keeps w e p old new (moved did) a d i
 does_or_keeps w e p old new (Err x) a d i = world_keeps w p old new (read w p old a) (λ f. rw d f) i
 
--- ---- routings: a part that is a router stands where the shape names one
-
-only_routers : (n : ShapeNumbers) (k : Kind) (p : PartId) (part : PartView) → is_router k ≡ false → FitsKind n k part → after (event.Route p) crossing.None part ≡ None
-only_routers n k p (TileV v) e f = refl
-only_routers n kind.Host p (RouterV v) e f = absurd f
-only_routers n (kind.Tile tile) p (RouterV v) e f = absurd f
-only_routers n (kind.Router board) p (RouterV v) e f = cc e
-only_routers n (kind.Link from onto) p (RouterV v) e f = absurd f
-only_routers n kind.Detector p (RouterV v) e f = absurd f
-only_routers n k p (LinkV v) e f = refl
-only_routers n k p (HostV s) e f = refl
-only_routers n k p (DetectorV v) e f = refl
-only_routers n k p AbsentV e f = refl
-
-routed_if : (w : WorldView) (e : Event) (there : Bool) (p : ℕ) (part : PartView) → slice_get w.parts p ≡ Some part → (there ≡ false → after e crossing.None part ≡ None) →
-    happened_at e w (one_if there p) ≡ option_map (with_part w p) (after e crossing.None part)
-routed_if w e true p part a none = ap (λ (o : Option PartView). option_map (with_part w p) (option_and_then (after e crossing.None) o)) a
-routed_if w e false p part a none = sym (ap (λ o. option_map (with_part w p) o) (none refl))
-
-fits_at : (w : WorldView) (p : ℕ) (part : PartView) → At w p part → IsWorld w → FitsKind w.shape (kind_of w.shape p) part
-fits_at w p part a i =
-    let within : p < part_count w.shape = subst (λ m. p < m) i.count a.within in
-    subst (FitsKind w.shape (kind_of w.shape p)) (get_or_from_slice_get w.parts p part AbsentV (read w p part a)) (i.each p within)
-
--- a routing by its part
-pub routed_at : (w : WorldView) (p : PartId) (part : PartView) → At w p.0 part → IsWorld w → happened (event.Route p) w ≡ option_map (with_part w p.0) (after (event.Route p) crossing.None part)
-routed_at w p part a i =
-    routed_if w (event.Route p) (is_router (kind_of w.shape p.0)) p.0 part (read w p.0 part a)
-    (λ e. only_routers w.shape (kind_of w.shape p.0) p part e (fits_at w p.0 part a i))
-
-pub can_route_at : (w : WorldView) (p : PartId) (part : PartView) → At w p.0 part → IsWorld w → is_some (happened (event.Route p) w) ≡ is_some (after (event.Route p) crossing.None part)
-can_route_at w p part a i = ap (λ (o : Option WorldView). is_some o) (routed_at w p part a i) ∙ some_mapped (with_part w p.0) (after (event.Route p) crossing.None part)
+-- ---- routings
 
 -- what a routing does on a part, it does on the machine
 pub routes_world : (w : WorldView) (p : PartId) (old new : PartView) (h : Bool) → At w p.0 old → Does h (after (event.Route p) crossing.None old) old new → IsWorld w → Does h (happened (event.Route p) w) w (record w { parts = set w.parts p.0 new })
 routes_world w p old new h a d i =
-    subst (λ o. Does h o w (record w { parts = set w.parts p.0 new })) (sym (routed_at w p old a i)) (does_by w p.0 (after (event.Route p) crossing.None old) old new h a d)
+    subst (λ o. Does h o w (record w { parts = set w.parts p.0 new })) (sym (routed w p old (read w p.0 old a) i)) (does_by w p.0 (after (event.Route p) crossing.None old) old new h a d)

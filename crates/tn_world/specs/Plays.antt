@@ -1,5 +1,5 @@
 -- What turns, and runs of them, leave.
-use Rattle.std.specs.Prelude.{ℕ, ◌≡◌, ◌≢◌, ◌≤◌, ◌<◌, ◌⊎◌, Bool, List, [], ◌∷◌, length, Option, Some, None, IsSome, MatchOption, MatchResult, is_some}
+use Rattle.std.specs.Prelude.{ℕ, ◌≡◌, ◌≢◌, ◌≤◌, ◌<◌, Bool, List, length, Option, Some, None, MatchOption, MatchResult, is_some}
 use Rattle.std.specs.declared.alloc.AllocError.{AllocError}
 use Rattle.std.specs.declared.result.Result.{Result}
 use Rattle.tn_base.specs.declared.event.Event.{Event}
@@ -35,7 +35,7 @@ pub record Makes (e : Event) (old new : WorldView) : Type 0 where
   pub happens : happened e old ≡ Some new
   pub longest : IsLongest e old
 
--- the machine makes an event, and it is told whether the event ends the run
+-- the machine makes an event and says whether the event ends the run
 pub record Told (e : Event) (last : Bool) (old new : WorldView) : Type 0 where
   pub makes : Makes e old new
   pub ends : last ≡ is_some (final_of e new)
@@ -54,13 +54,3 @@ pub record Played (limit : ℕ) (start : WorldView) (history : List Event) (end 
 -- a machine after some events, at most `limit`, each turn the longest
 abbrev pub Reached : ℕ → WorldView → WorldView → Type 0
 Reached limit start end = (history : List Event) × (length history ≤ limit) × Run start history end × LongTurns start history
-
--- an event is enabled, and none before it in the list is
-abbrev pub First : WorldView → List Event → Event → Type 0
-First w [] e = ⊥
-First w (x ∷ xs) e = ((x ≡ e) × IsSome (happened x w)) ⊎ ((happened x w ≡ None) × First w xs e)
-
--- none of these events is enabled
-abbrev pub NoneOf : WorldView → List Event → Type 0
-NoneOf w [] = Unit {0}
-NoneOf w (x ∷ xs) = (happened x w ≡ None) × NoneOf w xs

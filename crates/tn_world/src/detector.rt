@@ -1,6 +1,6 @@
 //! Events of the detector: visits to the parts that it visits, and what it does alone.
 
-ghost use Rattle.std.specs.Prelude.{◌≡◌, ◌<◌, is_some, length, option_and_then, option_map, slice_get, slice_index_or};
+ghost use Rattle.std.specs.Prelude.{◌≡◌, ◌<◌, length, option_and_then, option_map, slice_get, slice_index_or};
 ghost use Rattle.tn_base.specs.declared.event.Event.TheVariants as event;
 ghost use Rattle.tn_base.specs.Does.{Does};
 ghost use Rattle.tn_rows.specs.Ends.{done_on};
@@ -19,17 +19,11 @@ use tn_base::ids::PartId;
 use tn_base::laws::law_links;
 use tn_link::link::Link;
 use tn_part::part::Part;
+use tn_part::place::detector;
 use tn_part::visit::Visit;
 use tn_tile::deliver::Did;
 
 impl<L: Link> World<L> {
-    /// The detector's place.
-    fn detector(&self) -> PartId
-        ensures { result.0 ≡ detector_part self.now.shape }
-    {
-        PartId(self.shape.part_count() - 1)
-    }
-
     /// The detector visits a part.
     pub(crate) fn visit(&mut self, visit: Visit, p: PartId) -> Did
         ensures { Does (moved result) (happened (visit_event visit p) self.old) self.old self.new }
@@ -38,59 +32,31 @@ impl<L: Link> World<L> {
         if p.0 >= self.shape.visited() {
             return Did::Nothing;
         }
-        let d = self.detector();
+        let d = detector(&self.shape);
         visit_at(&mut self.parts, visit, p, d)
-    }
-
-    /// Whether the detector can visit a part.
-    pub(crate) fn can_visit(&self, visit: Visit, p: PartId) -> bool
-        ensures { result ≡ is_some (happened (visit_event visit p) self.now) }
-    {
-        law_links(&self.shape);
-        if p.0 >= self.shape.visited() {
-            return false;
-        }
-        let d = self.detector();
-        self.parts[p.0 as usize].can_visit(&self.parts[d.0 as usize], visit, p)
     }
 
     /// The detector begins to confirm.
     pub(crate) fn begin(&mut self) -> Did
         ensures { Does (moved result) (happened event.Begin self.old) self.old self.new }
     {
-        let d = self.detector();
+        let d = detector(&self.shape);
         self.parts[d.0 as usize].begin()
-    }
-
-    /// Whether the detector can begin to confirm.
-    pub(crate) fn can_begin(&self) -> bool
-        ensures { result ≡ is_some (happened event.Begin self.now) }
-    {
-        let d = self.detector();
-        self.parts[d.0 as usize].can_begin()
     }
 
     /// The detector announces that the machine is at rest.
     pub(crate) fn announce(&mut self) -> Did
         ensures { Does (moved result) (happened event.Announce self.old) self.old self.new }
     {
-        let d = self.detector();
+        let d = detector(&self.shape);
         self.parts[d.0 as usize].announce()
-    }
-
-    /// Whether the detector can announce.
-    pub(crate) fn can_announce(&self) -> bool
-        ensures { result ≡ is_some (happened event.Announce self.now) }
-    {
-        let d = self.detector();
-        self.parts[d.0 as usize].can_announce()
     }
 
     /// How a run ends with an announcement, if the announcement is final.
     pub(crate) fn done(&self) -> Option<Outcome>
         ensures { result ≡ option_and_then done_on (slice_get self.now.parts (detector_part self.now.shape)) }
     {
-        let d = self.detector();
+        let d = detector(&self.shape);
         self.parts.get(d.0 as usize)?.done()
     }
 }

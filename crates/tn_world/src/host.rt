@@ -1,9 +1,8 @@
 //! Events on the host and one of its links.
 
-ghost use Rattle.std.specs.Prelude.{◌≡◌, ◌<◌, ◌-◌, MatchResult, is_some, length, option_map, slice_get, slice_index_or};
+ghost use Rattle.std.specs.Prelude.{◌≡◌, ◌<◌, MatchResult, length, option_map, slice_get, slice_index_or};
 ghost use Rattle.tn_base.specs.declared.event.Event.TheVariants as event;
 ghost use Rattle.tn_base.specs.Does.{Does};
-ghost use Rattle.tn_base.specs.Parts.{part_count};
 ghost use Rattle.tn_rows.specs.Events.{happened, meets_at};
 ghost use Rattle.tn_rows.specs.PartView.{AbsentV};
 ghost use Rattle.tn_tile.specs.Turns.{moved};
@@ -16,28 +15,15 @@ use std::alloc::AllocError;
 use tn_base::ids::PartId;
 use tn_link::link::Link;
 use tn_part::part::Part;
+use tn_part::place::{from_host, to_host};
 use tn_tile::deliver::Did;
 
 impl<L: Link> World<L> {
-    /// The link that leads away from the host.
-    fn from_host(&self) -> PartId
-        ensures { result.0 ≡ part_count self.now.shape - 2 }
-    {
-        PartId(self.shape.part_count() - 2)
-    }
-
-    /// The link that leads to the host.
-    fn to_host(&self) -> PartId
-        ensures { result.0 ≡ part_count self.now.shape - 3 }
-    {
-        PartId(self.shape.part_count() - 3)
-    }
-
     /// The host puts its next message on its link.
     pub(crate) fn host_put(&mut self) -> Did
         ensures { Does (moved result) (happened event.HostPut self.old) self.old self.new }
     {
-        let l = self.from_host();
+        let l = from_host(&self.shape);
         put_at(&mut self.parts, l)
     }
 
@@ -45,24 +31,8 @@ impl<L: Link> World<L> {
     pub(crate) fn host_take(&mut self) -> Result<Did, AllocError>
         ensures { MatchResult result (λ did. Does (moved did) (happened event.HostTake self.old) self.old self.new) (λ _. self.new ≡ self.old) }
     {
-        let l = self.to_host();
+        let l = to_host(&self.shape);
         take_at(&mut self.parts, l)
-    }
-
-    /// Whether the host can put its next message on its link.
-    pub(crate) fn can_put(&self) -> bool
-        ensures { result ≡ is_some (happened event.HostPut self.now) }
-    {
-        let l = self.from_host();
-        self.parts[0].can_put(&self.parts[l.0 as usize])
-    }
-
-    /// Whether the host can take a packet from its link.
-    pub(crate) fn can_take(&self) -> bool
-        ensures { result ≡ is_some (happened event.HostTake self.now) }
-    {
-        let l = self.to_host();
-        self.parts[0].can_take(&self.parts[l.0 as usize])
     }
 }
 

@@ -3,7 +3,6 @@
 //! What an event makes of a machine stands in `tn_rows`. Read `events::step` and `play::play` first.
 #![tactic(auto)]
 
-mod agenda;
 mod detector;
 pub mod events;
 mod host;

@@ -1,6 +1,6 @@
 //! Events on a tile or a router and a link: departures and arrivals.
 
-ghost use Rattle.std.specs.Prelude.{◌≡◌, ◌<◌, is_some, length, option_map, slice_get, slice_index_or};
+ghost use Rattle.std.specs.Prelude.{◌≡◌, ◌<◌, length, option_map, slice_get, slice_index_or};
 ghost use Rattle.tn_base.specs.declared.event.Event.TheVariants as event;
 ghost use Rattle.tn_base.specs.Does.{Does};
 ghost use Rattle.tn_rows.specs.Events.{happened, meets_at};
@@ -39,32 +39,6 @@ impl<L: Link> World<L> {
             return Did::Nothing;
         };
         arrive_at(&mut self.parts, l, p, side)
-    }
-
-    /// Whether a packet can go from a part to a link.
-    pub(crate) fn can_depart(&self, p: PartId, l: PartId) -> bool
-        ensures { result ≡ is_some (happened (event.Depart p l) self.now) }
-    {
-        law_links(&self.shape);
-        match self.sites.way_from(p, l) {
-            Some(way) => {
-                self.parts[p.0 as usize].can_depart(&self.parts[l.0 as usize], p, l, way)
-            }
-            None => false,
-        }
-    }
-
-    /// Whether a link's first packet can go to a part.
-    pub(crate) fn can_arrive(&self, l: PartId, p: PartId) -> bool
-        ensures { result ≡ is_some (happened (event.Arrive l p) self.now) }
-    {
-        law_links(&self.shape);
-        match self.sites.side_onto(l, p) {
-            Some(side) => {
-                self.parts[p.0 as usize].can_arrive(&self.parts[l.0 as usize], l, p, side)
-            }
-            None => false,
-        }
     }
 }
 

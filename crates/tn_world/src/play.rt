@@ -6,14 +6,16 @@ ghost use Rattle.tn_base.specs.declared.ids.ThreadId.{ThreadId};
 ghost use Rattle.tn_rows.specs.Events.{Rests, happened};
 ghost use Rattle.tn_world.specs.Plays.{MakesOr, Played, Reached, Told};
 
-use crate::agenda::Agenda;
 use crate::events::{enabled, final_of};
 use crate::world::World;
 use std::alloc::AllocError;
+use tn_agenda::agenda::Agenda;
+use tn_agenda::share::Share;
 use tn_base::event::Event;
 use tn_base::ids::ThreadId;
 use tn_link::link::Link;
 use tn_pages::stock::{FULL, PageStock};
+use tn_part::place::to_host;
 use tn_part::visit::Visit;
 use tn_tile::deliver::Did;
 use tn_tile::step::Turned;
@@ -27,7 +29,8 @@ pub fn play<L: Link>(world: &mut World<L>, limit: u64) -> Result<Vec<Event>, All
     ensures { MatchResult result (λ history. Played limit world.old history.items world.new) (λ _. Reached limit world.old world.new) }
 {
     let alloc = world.parts.allocator().clone()?;
-    let mut agenda = Agenda::of(alloc, &world.sites)?;
+    let share = Share::of(world.sites.shape().visited(), 1, 0);
+    let mut agenda = Agenda::of(alloc, &world.sites, share)?;
     let mut history = Vec::new(alloc);
     let mut stock = PageStock::of(alloc);
     while (history.len() as u64) < limit {
@@ -75,7 +78,7 @@ fn make_first<L: Link>(
     let Some(event) = enabled(world) else {
         return Ok(None);
     };
-    agenda.mark_all();
+    agenda.wake_all();
     make(world, &event, stock)
 }
 
@@ -88,7 +91,7 @@ fn try_agenda<L: Link>(
     ensures { MakesOr result ⊤ world.old world.new }
 {
     for _ in 0..MOST_TRIES {
-        let Some(tried) = agenda.next(world) else {
+        let Some(tried) = next_tried(world, agenda) else {
             return Ok(None);
         };
         if let Some(made) = make(world, &tried, stock)? {
@@ -97,6 +100,39 @@ fn try_agenda<L: Link>(
         }
     }
     Ok(None)
+}
+
+/// The next event of the agenda; None if nothing is left to try.
+fn next_tried<L: Link>(world: &World<L>, agenda: &mut Agenda) -> Option<Event> {
+    for _ in 0..MOST_TRIES {
+        let Some(p) = agenda.stop() else {
+            if let Some(event) = agenda.rest(world.parts.last()?) {
+                return Some(event);
+            }
+            agenda.stop()?;
+            continue;
+        };
+        if let Some(event) = agenda.next(world.parts.get(p.0 as usize)?) {
+            if !is_empty_arrival(world, &event) {
+                return Some(event);
+            }
+            agenda.emptied(&event);
+        }
+    }
+    None
+}
+
+/// Whether an event is an arrival from a link without a packet.
+fn is_empty_arrival<L: Link>(world: &World<L>, e: &Event) -> bool {
+    let l = match *e {
+        Event::Arrive(l, _) => l,
+        Event::HostTake => to_host(&world.shape),
+        _ => return false,
+    };
+    match world.parts.get(l.0 as usize) {
+        Some(link) => !link.carries(),
+        None => false,
+    }
 }
 
 /// Makes an event if it is enabled; a turn becomes the longest turn of its thread. The pages that a turn writes first and a letter

@@ -10,6 +10,7 @@ use std::marker::Model;
 use tn_base::ids::PartId;
 use tn_base::shape::Shape;
 use tn_link::link::Link;
+use tn_part::has_parts::HasParts;
 use tn_part::part::Part;
 use tn_part::site::Sites;
 
@@ -92,6 +93,20 @@ impl<L: Link> World<L> {
         ensures { IsTrue result ↔ (self.now ≡ other.now) }
     {
         self.shape == other.shape && same_parts(&self.parts, &other.parts)
+    }
+}
+
+impl<L: Link> HasParts for World<L> {
+    type Link = L;
+
+    ghost world = { λ w. w };
+
+    fn sites(&self) -> &Sites {
+        &self.sites
+    }
+
+    fn part(&self, p: PartId) -> &Part<L> {
+        &self.parts[p.0 as usize]
     }
 }
 

@@ -1,6 +1,6 @@
 use Rattle.std.proofs.Common.{◌∙◌, ap}
 use Rattle.tn_text.specs.Lines.{lines_of}
-use Rattle.job_faults.specs.Mapping.{lines_flits}
+use Rattle.graph_text.specs.Flits.{lines_flits}
 use Rattle.job_faults.proofs.Maps.{long_is}
 use Rattle.job_faults.proofs.mapping.is_long.Goals as goal
 

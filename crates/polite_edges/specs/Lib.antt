@@ -1,0 +1,5 @@
+pub mod Deeds
+pub mod Histories
+pub mod Layout
+pub mod Runs
+pub mod VertexLog

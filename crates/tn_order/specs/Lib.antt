@@ -1,0 +1,12 @@
+pub mod Acting
+pub mod Acts
+pub mod Each
+pub mod History
+pub mod Kept
+pub mod Law
+pub mod Moving
+pub mod Net
+pub mod Numbers
+pub mod Order
+pub mod Spots
+pub mod Views

@@ -1,0 +1,28 @@
+use Rattle.std.proofs.Common.{subst, sym}
+use Rattle.std.specs.List.{All}
+use Rattle.tn_base.specs.declared.shape.ShapeNumbers.{ShapeNumbers}
+use Rattle.tn_stamped.proofs.Entries.{high_stands_or, low_stands_or}
+use Rattle.tn_stamped.proofs.placed.Placed.two.Goals as goal
+use Rattle.tn_rows.specs.Stamped.{StandsAt}
+use Rattle.tn_stamped.proofs.Giving.{two_grows}
+use Rattle.tn_stamped.specs.Placed.{GrewTogether, PlacedView}
+
+pub invariant_of-self : goal.invariant_of-self
+invariant_of-self g c = low_stands_or c.self.inside.shape c.self.inside.place.0 c.high.inside.place.0 c.self.inside.stamped c.high.inside.stamped c.two.new.self c.two.new.high c.two.result c.args.e (rw (← c.high.view_is, ← c.self.view_is) at c.requires.here) c.two.ensures c.self.invariant
+
+pub invariant_of-high : goal.invariant_of-high
+invariant_of-high g c =
+    let here = rw (← c.high.view_is, ← c.self.view_is) at c.requires.here in
+    let same = rw (← c.high.view_is, ← c.self.view_is) at c.requires.same in
+    subst (λ (m : ShapeNumbers). All (StandsAt m c.high.inside.place.0) c.two.new.high.entries) (sym same) (high_stands_or c.self.inside.shape c.self.inside.place.0 c.high.inside.place.0 c.self.inside.stamped c.high.inside.stamped c.two.new.self c.two.new.high c.two.result c.args.e here c.two.ensures (subst (λ (m : ShapeNumbers). All (StandsAt m c.high.inside.place.0) c.high.inside.stamped.entries) same c.high.invariant))
+
+pub returns-clause-grow : goal.returns-clause-grow
+returns-clause-grow g c =
+    let old : PlacedView = record { stamped = c.self.inside.stamped; shape = c.self.inside.shape; place = c.self.inside.place.0 } in
+    let high : PlacedView = record { stamped = c.high.inside.stamped; shape = c.high.inside.shape; place = c.high.inside.place.0 } in
+    let here = rw (← c.high.view_is, ← c.self.view_is) at c.requires.here in
+    let same = rw (← c.high.view_is, ← c.self.view_is) at c.requires.same in
+    subst (λ (x : PlacedView). GrewTogether x c.args.high.now (record old { stamped = c.two.new.self }) (record high { stamped = c.two.new.high })) c.self.view_is
+    (subst (λ (y : PlacedView). GrewTogether old y (record old { stamped = c.two.new.self }) (record high { stamped = c.two.new.high })) c.high.view_is
+    (subst (λ (n : ShapeNumbers). GrewTogether old (record high { shape = n }) (record old { stamped = c.two.new.self }) (record { stamped = c.two.new.high; shape = n; place = high.place })) (sym same)
+    (two_grows old.shape old.place high.place old.stamped high.stamped c.two.new.self c.two.new.high c.two.result c.args.e here c.two.ensures)))
