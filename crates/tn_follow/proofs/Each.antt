@@ -1,7 +1,8 @@
 -- What is new in two lists that share no spot.
 use Rattle.std.proofs.Common.{◌≡◌, ◌∙◌, ◌⊎◌, inl, inr, ⊎_elim, Bool, true, false, cond, List, [], ◌∷◌, ◌++◌, Option, Some, None, option_map, refl, ap, sym}
 use Rattle.tn_follow.specs.Apart.{HasNone, NewInEach}
-use Rattle.tn_follow.specs.Follow.{Spot, new_by, new_spots, same_spot, with_first, without}
+use Rattle.tn_follow.specs.declared.spots.Spot.{Spot}
+use Rattle.tn_follow.specs.Follow.{new_by, new_spots, same_spot, with_first, without}
 
 -- a list without a spot, by what the test of its first one says
 none_by : (b : Bool) (ys : List Spot) (y : Spot) (o : Option (List Spot)) → cond b (Some ys) (with_first y o) ≡ None → (b ≡ false) × (o ≡ None)
@@ -23,7 +24,7 @@ nothing_before None = refl
 nothing_before (Some zs) = refl
 
 -- a spot that the front does not have is looked for behind it
-behind_front : (x : Spot) (ys zs : List Spot) → without x ys ≡ None → without x (ys ++ zs) ≡ option_map (λ rest. ys ++ rest) (without x zs)
+pub behind_front : (x : Spot) (ys zs : List Spot) → without x ys ≡ None → without x (ys ++ zs) ≡ option_map (λ rest. ys ++ rest) (without x zs)
 behind_front x [] zs none = nothing_before (without x zs)
 behind_front x (y ∷ ys) zs none =
     let p = none_by (same_spot x y) ys y (without x ys) none in

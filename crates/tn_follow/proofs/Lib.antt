@@ -1,3 +1,4 @@
 pub mod Each
 pub mod Others
-pub mod Spots
+pub mod Staying
+pub mod Taking

@@ -1,6 +1,7 @@
 -- Lists of spots that may be looked at one after the other.
 use Rattle.std.specs.Prelude.{◌≡◌, List, [], ◌∷◌, ◌++◌, None}
-use Rattle.tn_follow.specs.Follow.{Spot, new_spots, without}
+use Rattle.tn_follow.specs.declared.spots.Spot.{Spot}
+use Rattle.tn_follow.specs.Follow.{new_spots, without}
 
 -- the second list has none of the spots of the first
 abbrev pub HasNone : List Spot → List Spot → Type 0

@@ -13,6 +13,7 @@ use Rattle.tn_letters.specs.Standing.{standing}
 use Rattle.tn_letters.specs.Steps.{event_steps}
 use Rattle.tn_rows.specs.Events.{happened}
 use Rattle.tn_rows.specs.WorldView.{WorldView}
+use Rattle.tn_follow.specs.declared.spots.Spot.{Spot}
 use Rattle.tn_follow.specs.declared.sighting.Sighting.{Sighting}
 use Rattle.tn_follow.specs.declared.sighting.Sighting.TheVariants as sighting
 
@@ -35,11 +36,7 @@ same_place (place.InProcess p side) (place.InProcess q from) = p.0 == q.0 && por
 same_place (place.Slot tile slot t) (place.Slot at room u) = tile.0 == at.0 && slot == room && t.0 == u.0
 same_place _ _ = false
 
--- a letter of the send in its place
-pub record Spot : Type 0 where
-  pub place : Place
-  pub receiver : ℕ
-
+-- two letters of the send are in one place, for one receiver
 abbrev pub same_spot : Spot → Spot → Bool
 same_spot a b = same_place a.place b.place && a.receiver == b.receiver
 
@@ -47,9 +44,12 @@ same_spot a b = same_place a.place b.place && a.receiver == b.receiver
 abbrev pub is_sent_by : ℕ → ℕ → Letter → Bool
 is_sent_by origin number l = l.origin == origin && l.number == number
 
--- where the send's letters are
+-- where the send's letters are among these letters in their places
+abbrev pub spots_in : ℕ → ℕ → List (Place × Letter) → List Spot
+spots_in origin number all = map (λ (q : Place × Letter). record { place = q.0; receiver = q.1.receiver }) (filter (λ (q : Place × Letter). is_sent_by origin number q.1) all)
+
 abbrev pub spots : ℕ → ℕ → WorldView → List Spot
-spots origin number w = map (λ (q : Place × Letter). record { place = q.0; receiver = q.1.receiver }) (filter (λ (q : Place × Letter). is_sent_by origin number q.1) (standing w))
+spots origin number w = spots_in origin number (standing w)
 
 abbrev pub with_first : Spot → Option (List Spot) → Option (List Spot)
 with_first y None = None

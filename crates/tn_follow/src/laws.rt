@@ -3,7 +3,8 @@
 ghost use Rattle.std.specs.Prelude.{ℕ, ◌≡◌, List, []};
 ghost use Rattle.tn_follow.specs.Apart.{NewInEach};
 ghost use Rattle.tn_follow.specs.Elsewhere.{LeavesOthers};
-ghost use Rattle.tn_follow.specs.Follow.{Spot, new_spots, sightings};
+ghost use Rattle.tn_follow.specs.Follow.{new_spots, sightings};
+ghost use Rattle.tn_follow.specs.declared.spots.Spot.{Spot};
 ghost use Rattle.tn_rows.specs.WorldView.{WorldView};
 
 /// An event leaves what stands on each part that it is not on, and what stays is not told again. Places that share no spot may be looked

@@ -6,3 +6,4 @@
 
 pub mod laws;
 pub mod sighting;
+pub mod spots;

@@ -1,6 +1,6 @@
 use Rattle.tn_follow.proofs.Each.{new_in_each}
 use Rattle.tn_follow.proofs.Others.{leaves_others}
-use Rattle.tn_follow.proofs.Spots.{none_new}
+use Rattle.tn_follow.proofs.Staying.{none_new}
 use Rattle.tn_follow.proofs.laws.law_elsewhere.Goals as goal
 
 pub returns-clause-parts : goal.returns-clause-parts

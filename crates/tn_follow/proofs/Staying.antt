@@ -3,7 +3,8 @@ use Rattle.std.proofs.Common.{◌≡◌, ◌∙◌, ℕ, true, eqb, List, [], �
 use Rattle.std.proofs.lemmas.Bool.{eq-eqb}
 use Rattle.tn_letters.specs.declared.place.Place.{Place}
 use Rattle.tn_letters.specs.declared.place.Place.TheVariants as place
-use Rattle.tn_follow.specs.Follow.{Spot, new_by, new_spots, port_number, same_place, same_spot, without}
+use Rattle.tn_follow.specs.declared.spots.Spot.{Spot}
+use Rattle.tn_follow.specs.Follow.{new_by, new_spots, port_number, same_place, same_spot, without}
 
 eqb-same : (a : ℕ) → eqb a a ≡ true
 eqb-same a = eq-eqb a a refl
