@@ -1,6 +1,6 @@
 -- Where the letters of one send are, event by event.
 use Rattle.std.specs.Prelude.{ℕ, ◌+◌, ◌==◌, ◌&&◌, Bool, false, List, [], ◌∷◌, ◌++◌, map, Option, Some, None, if◌then◌else◌}
-use Rattle.std.specs.List.{filter, flat_map}
+use Rattle.std.specs.List.{filter, filter_map}
 use Rattle.tn_base.specs.declared.event.Event.{Event}
 use Rattle.tn_base.specs.declared.message.Letter.{Letter}
 use Rattle.tn_base.specs.declared.port.Port.{Port}
@@ -70,26 +70,31 @@ abbrev pub new_spots : List Spot → List Spot → List Spot
 new_spots [] old = []
 new_spots (x ∷ xs) old = new_by (without x old) x old (λ others. new_spots xs others)
 
--- the letters that a step hands, and those that it drops
-abbrev pub handed_by : BagStep → List Letter
-handed_by (bag.Hand thread seen letter) = letter ∷ []
-handed_by (bag.HostHand letter) = letter ∷ []
-handed_by _ = []
+-- the letter that a step hands, and the letter that it drops
+abbrev pub letter_handed : BagStep → Option Letter
+letter_handed (bag.Hand thread seen letter) = Some letter
+letter_handed (bag.HostHand letter) = Some letter
+letter_handed _ = None
 
-abbrev pub dropped_by : BagStep → List Letter
-dropped_by (bag.Discard letter) = letter ∷ []
-dropped_by _ = []
+abbrev pub letter_dropped : BagStep → Option Letter
+letter_dropped (bag.Discard letter) = Some letter
+letter_dropped _ = None
 
 abbrev pub receivers : ℕ → ℕ → List Letter → List ℕ
 receivers origin number letters = map (λ (l : Letter). l.receiver) (filter (is_sent_by origin number) letters)
+
+-- the same of one letter, if there is a letter
+abbrev pub received_by : ℕ → ℕ → Option Letter → List ℕ
+received_by origin number None = []
+received_by origin number (Some l) = if is_sent_by origin number l then l.receiver ∷ [] else []
 
 -- what an event, which has this number, does with the send's letters: the places that they are in now and were not in before, then those
 -- that it hands, then those that it drops
 abbrev pub sighted_in : ℕ → ℕ → ℕ → Event → WorldView → WorldView → List Sighting
 sighted_in origin number k e old new =
     map (λ (s : Spot). sighting.At k s.place s.receiver) (new_spots (spots origin number new) (spots origin number old))
-    ++ map (λ r. sighting.Handed k r) (receivers origin number (flat_map handed_by (event_steps e old)))
-    ++ map (λ r. sighting.Dropped k r) (receivers origin number (flat_map dropped_by (event_steps e old)))
+    ++ map (λ r. sighting.Handed k r) (receivers origin number (filter_map letter_handed (event_steps e old)))
+    ++ map (λ r. sighting.Dropped k r) (receivers origin number (filter_map letter_dropped (event_steps e old)))
 
 abbrev pub sighted_then : ℕ → ℕ → ℕ → Event → WorldView → Option WorldView → (WorldView → List Sighting) → List Sighting
 sighted_then origin number k e old None rest = []

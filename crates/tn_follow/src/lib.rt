@@ -4,6 +4,7 @@
 //! that lists the sightings is not there yet.
 #![tactic(auto)]
 
+pub mod ends;
 pub mod laws;
 pub mod sighting;
 pub mod spots;

@@ -16,7 +16,7 @@ pub struct Spot {
 }
 
 /// Whether a letter is of the send of this number by this origin.
-fn is_sent_by(origin: u32, number: u32, letter: &Letter) -> bool
+pub(crate) fn is_sent_by(origin: u32, number: u32, letter: &Letter) -> bool
     ensures { result ≡ is_sent_by origin number letter.now }
 {
     letter.origin == origin && letter.number == number
