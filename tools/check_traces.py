@@ -70,7 +70,7 @@ def main():
     checked = 0
     for line in (examples / "cases.txt").read_text().splitlines():
         parts = [part.strip() for part in line.split("|")]
-        if len(parts) != 4 or parts[0] != "run" or parts[2].split(" ")[0] not in ENDS or not parts[1].endswith(".job"):
+        if len(parts) not in (4, 5) or parts[0] != "run" or parts[2].split(" ")[0] not in ENDS or not parts[1].endswith(".job"):
             continue
         faults += faults_of(program, (examples / parts[1]).read_bytes(), parts[1])
         checked += 1

@@ -21,6 +21,12 @@ trimmed() {
   printf '%s' "${text%"${text##*[! ]}"}"
 }
 
+# sort_letters FILE: sorts the `host` lines of a report, which come before its other lines
+sort_letters() {
+  { grep '^host ' "$1" | LC_ALL=C sort; grep -v '^host ' "$1"; } >"$1.sorted"
+  mv "$1.sorted" "$1"
+}
+
 # call WORDS INPUT OUTPUT: makes a call, and sets `status`
 call() {
   local words=() input=$2 output=$work/printed
@@ -41,17 +47,19 @@ is_so() {
   [ "$status" = "$1" ] && cmp -s "$work/printed" "$wanted" && cmp -s "$work/told" "$work/wanted"
 }
 
-while IFS='|' read -r words input ended output; do
+while IFS='|' read -r words input ended output form; do
   case $words in '#'*) continue ;; esac
   words=$(trimmed "$words")
   input=$(trimmed "$input")
   output=$(trimmed "$output")
+  form=$(trimmed "$form")
   read -r number name <<<"$ended"
   if [ "$output" = full ] && [ ! -c /dev/full ]; then
     skipped=$((skipped + 1))
     continue
   fi
   call "$words" "$input" "$output"
+  [ "$form" = sorted ] && sort_letters "$work/printed"
   if is_so "$number" "$name" "$output"; then
     passed=$((passed + 1))
   else
