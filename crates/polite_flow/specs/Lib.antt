@@ -1,0 +1,5 @@
+pub mod Flow
+pub mod Law
+pub mod OnWay
+pub mod Places
+pub mod Ranks
