@@ -1,5 +1,7 @@
 pub mod Descent
+pub mod Directed
 pub mod Keys
+pub mod Routed
 pub mod Routers
 pub mod Steps
 pub mod Tiles

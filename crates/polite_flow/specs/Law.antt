@@ -6,10 +6,16 @@ use Rattle.tn_base.specs.declared.port.Port.{Port}
 use Rattle.tn_base.specs.declared.shape.ShapeNumbers.{ShapeNumbers}
 use Rattle.tn_base.specs.Shape.{WithinLimits}
 use Rattle.tn_keys.specs.Tables.{HasBoard, Table, is_bad_key, table_of}
+use Rattle.graph_text.specs.declared.graph.Graph.{Graph}
+use Rattle.graph_text.specs.Graph.{pins_at}
+use Rattle.polite_place.specs.declared.placement.Seat.{Seat}
+use Rattle.polite_place.specs.Seats.{seat_of}
+use Rattle.polite_routes.specs.declared.routes.RouteSet.{RouteSet}
+use Rattle.polite_routes.specs.Answer.{pin_key}
 use Rattle.polite_routes.specs.Straight.{StraightFrom}
 use Rattle.polite_flow.specs.Flow.{To, AreOnWay, Enters, Goes, IsFree, Leaves}
 use Rattle.polite_flow.specs.OnWay.{AreDirected, Fits}
-use Rattle.polite_flow.specs.Places.{Item, Bound, Tile, Place, Pending, Works, next}
+use Rattle.polite_flow.specs.Places.{Item, Bound, Tile, Place, Pending, Works, next, tile_named}
 use Rattle.polite_flow.specs.Ranks.{net_of, rank}
 
 -- the machine's numbers are within their limits, and its tables name the four directions alone
@@ -47,3 +53,8 @@ NoKeyIsBad = (n : ShapeNumbers) (tables : List Table) (p : Place) (b : Board) (s
 -- a key whose branches are straight from a board of the machine on may be sent from each tile of the board
 abbrev pub StraightKeysFit : Type 0
 StraightKeysFit = (n : ShapeNumbers) (tables : List Table) (most : ℕ) (t : Tile) (thread key : ℕ) → HasBoard n t.board → t.x < n.tiles_x → t.y < n.tiles_y → StraightFrom most n tables 4 (Some t.board) (Some key) → Fits n tables (Pending t thread) (Bound (dest.Key key))
+
+-- the routes of a graph on a machine: the tables name the four directions alone, and a vertex may send by the key of each of its pins
+pub record AreRoutes (n : ShapeNumbers) (graph : Graph) (placement : List Seat) (set : RouteSet) : Type 0 where
+  pub has : HasRoutes n set.tables
+  pub sent : (v pin key thread : ℕ) → v < length graph.vertices → pin < pins_at graph v → pin_key set.keys v pin ≡ Some key → Fits n set.tables (Pending (tile_named (seat_of placement v).thread.0) thread) (Bound (dest.Key key))

@@ -1,6 +1,17 @@
 //! Laws of the packets of a graph's job. A law answers nothing: its contract is what it says.
 
-ghost use Rattle.polite_flow.specs.Law.{EachChangeKeepsWays, NoKeyIsBad, RanksFall, SomePacketIsFree, StraightKeysFit};
+ghost use Rattle.std.specs.Prelude.{◌≡◌, Ok};
+ghost use Rattle.graph_text.specs.Graph.{IsGraph};
+ghost use Rattle.polite_place.specs.Outs.{outs_of};
+ghost use Rattle.polite_place.specs.Seats.{placed};
+ghost use Rattle.polite_routes.specs.declared.routes.RouteSet.{RouteSet};
+ghost use Rattle.polite_routes.specs.Answer.{routes_of};
+ghost use Rattle.polite_flow.specs.Law.{AreRoutes, EachChangeKeepsWays, NoKeyIsBad, RanksFall, SomePacketIsFree, StraightKeysFit};
+
+use graph_text::graph::Graph;
+use polite_place::placement::Placement;
+use polite_routes::laws::law_served;
+use tn_base::shape::Shape;
 
 /// If the branches of each key that is sent are straight, each change keeps every packet on its way: the ranks of the places to
 /// which the packet goes fall. So if a packet stands anywhere, the first packet of some place goes out or finds room in its next
@@ -12,3 +23,14 @@ pub fn law_ranks()
     ensures keys { NoKeyIsBad }
     ensures straight { StraightKeysFit }
 {}
+
+/// The routes of a graph with its placement are such routes: their tables name the four directions alone, and each vertex may send by
+/// the key of each of its pins.
+pub fn law_routed(shape: &Shape, graph: &Graph, placement: &Placement)
+    requires graph { IsGraph graph.now }
+    requires placement { Ok placement.now ≡ placed shape.now graph.now.per_thread (outs_of graph.now) }
+    ensures { (set : RouteSet) → Ok set ≡ routes_of shape.now graph.now placement.now → AreRoutes shape.now graph.now placement.now set }
+{
+    let _numbers = shape.numbers();
+    law_served(shape, graph, placement);
+}
