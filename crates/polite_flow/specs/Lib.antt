@@ -1,5 +1,6 @@
 pub mod Flow
 pub mod Law
+pub mod Machine
 pub mod OnWay
 pub mod Places
 pub mod Ranks

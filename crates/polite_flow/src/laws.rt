@@ -6,6 +6,7 @@ ghost use Rattle.polite_place.specs.Outs.{outs_of};
 ghost use Rattle.polite_place.specs.Seats.{placed};
 ghost use Rattle.polite_routes.specs.declared.routes.RouteSet.{RouteSet};
 ghost use Rattle.polite_routes.specs.Answer.{routes_of};
+ghost use Rattle.polite_flow.specs.Machine.{LinksLeadOn};
 ghost use Rattle.polite_flow.specs.Law.{AreRoutes, EachChangeKeepsWays, NoKeyIsBad, RanksFall, SomePacketIsFree, StraightKeysFit};
 
 use graph_text::graph::Graph;
@@ -33,4 +34,11 @@ pub fn law_routed(shape: &Shape, graph: &Graph, placement: &Placement)
 {
     let _numbers = shape.numbers();
     law_served(shape, graph, placement);
+}
+
+/// The links of a machine lead on as the places say: a packet on a link goes to the place where the part behind the link puts it.
+pub fn law_links(shape: &Shape)
+    ensures { LinksLeadOn shape.now }
+{
+    let _numbers = shape.numbers();
 }
