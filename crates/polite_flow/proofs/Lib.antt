@@ -2,6 +2,7 @@ pub mod Descent
 pub mod Directed
 pub mod Keys
 pub mod Links
+pub mod Process
 pub mod Routed
 pub mod Routers
 pub mod Steps

@@ -4,3 +4,4 @@ pub mod Machine
 pub mod OnWay
 pub mod Places
 pub mod Ranks
+pub mod Routers

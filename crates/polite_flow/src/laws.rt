@@ -7,6 +7,7 @@ ghost use Rattle.polite_place.specs.Seats.{placed};
 ghost use Rattle.polite_routes.specs.declared.routes.RouteSet.{RouteSet};
 ghost use Rattle.polite_routes.specs.Answer.{routes_of};
 ghost use Rattle.polite_flow.specs.Machine.{LinksLeadOn};
+ghost use Rattle.polite_flow.specs.Routers.{RoutersGiveWays, RoutersKeepWays};
 ghost use Rattle.polite_flow.specs.Law.{AreRoutes, EachChangeKeepsWays, NoKeyIsBad, RanksFall, SomePacketIsFree, StraightKeysFit};
 
 use graph_text::graph::Graph;
@@ -42,3 +43,10 @@ pub fn law_links(shape: &Shape)
 {
     let _numbers = shape.numbers();
 }
+
+/// Each deed of a router keeps its packets on their way, if what the router takes is on its way. So no Route finds a bad key. What the
+/// router gives to a link is on its way there.
+pub fn law_routers()
+    ensures keep { RoutersKeepWays }
+    ensures give { RoutersGiveWays }
+{}
