@@ -76,7 +76,7 @@ same_tile : (u v x y a b c d : ℕ) → u ≡ a → v ≡ b → x ≡ c → y �
 same_tile u v x y a b c d e f g h = ap (λ k. tile_made k v x y) e ∙ ap (λ k. tile_made a k x y) f ∙ ap (λ k. tile_made a b k y) g ∙ ap (λ k. tile_made a b c k) h
 
 -- the way that the machine's rows take
-named_way : (a : ℕ) (to : Dest) → tile_port a to ≡ way_for (tile_named a) to
+pub named_way : (a : ℕ) (to : Dest) → tile_port a to ≡ way_for (tile_named a) to
 named_way a (dest.Thread t) = refl
 named_way a dest.Host = refl
 named_way a (dest.Mask tile mask) = refl

@@ -5,3 +5,4 @@ pub mod OnWay
 pub mod Places
 pub mod Ranks
 pub mod Routers
+pub mod Tiles

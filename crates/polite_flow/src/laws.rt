@@ -8,6 +8,7 @@ ghost use Rattle.polite_routes.specs.declared.routes.RouteSet.{RouteSet};
 ghost use Rattle.polite_routes.specs.Answer.{routes_of};
 ghost use Rattle.polite_flow.specs.Machine.{LinksLeadOn};
 ghost use Rattle.polite_flow.specs.Routers.{RoutersGiveWays, RoutersKeepWays};
+ghost use Rattle.polite_flow.specs.Tiles.{TilesGiveWays, TilesKeepWays};
 ghost use Rattle.polite_flow.specs.Law.{AreRoutes, EachChangeKeepsWays, NoKeyIsBad, RanksFall, SomePacketIsFree, StraightKeysFit};
 
 use graph_text::graph::Graph;
@@ -49,4 +50,11 @@ pub fn law_links(shape: &Shape)
 pub fn law_routers()
     ensures keep { RoutersKeepWays }
     ensures give { RoutersGiveWays }
+{}
+
+/// Each deed of a tile keeps its packets on their way, if what a turn leaves to be sent is on its way, and what the tile takes. What the
+/// tile gives to a link is on its way there.
+pub fn law_tiles()
+    ensures keep { TilesKeepWays }
+    ensures give { TilesGiveWays }
 {}
