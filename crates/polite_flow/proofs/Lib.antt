@@ -2,6 +2,7 @@ pub mod Descent
 pub mod Directed
 pub mod Keys
 pub mod Links
+pub mod Meetings
 pub mod Passing
 pub mod Process
 pub mod Routed

@@ -1,6 +1,7 @@
 pub mod Flow
 pub mod Law
 pub mod Machine
+pub mod Meetings
 pub mod OnWay
 pub mod Places
 pub mod Ranks

@@ -7,6 +7,7 @@ ghost use Rattle.polite_place.specs.Seats.{placed};
 ghost use Rattle.polite_routes.specs.declared.routes.RouteSet.{RouteSet};
 ghost use Rattle.polite_routes.specs.Answer.{routes_of};
 ghost use Rattle.polite_flow.specs.Machine.{LinksLeadOn};
+ghost use Rattle.polite_flow.specs.Meetings.{RoutersArrive, RoutersDepart, TilesArrive, TilesDepart};
 ghost use Rattle.polite_flow.specs.Routers.{RoutersGiveWays, RoutersKeepWays};
 ghost use Rattle.polite_flow.specs.Tiles.{TilesGiveWays, TilesKeepWays};
 ghost use Rattle.polite_flow.specs.Law.{AreRoutes, EachChangeKeepsWays, NoKeyIsBad, RanksFall, SomePacketIsFree, StraightKeysFit};
@@ -57,4 +58,13 @@ pub fn law_routers()
 pub fn law_tiles()
     ensures keep { TilesKeepWays }
     ensures give { TilesGiveWays }
+{}
+
+/// A packet that departs or arrives, at a tile or at a router, leaves the packets of the part and of the link on their way. A packet
+/// arrives by a link of the machine.
+pub fn law_meetings()
+    ensures tile_departs { TilesDepart }
+    ensures router_departs { RoutersDepart }
+    ensures tile_arrives { TilesArrive }
+    ensures router_arrives { RoutersArrive }
 {}
