@@ -1,5 +1,6 @@
 pub mod Descent
 pub mod Directed
+pub mod Fresh
 pub mod Keys
 pub mod Links
 pub mod Meetings

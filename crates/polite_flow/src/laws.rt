@@ -6,6 +6,7 @@ ghost use Rattle.polite_place.specs.Outs.{outs_of};
 ghost use Rattle.polite_place.specs.Seats.{placed};
 ghost use Rattle.polite_routes.specs.declared.routes.RouteSet.{RouteSet};
 ghost use Rattle.polite_routes.specs.Answer.{routes_of};
+ghost use Rattle.polite_flow.specs.Fresh.{FreshPartsAreOnWay};
 ghost use Rattle.polite_flow.specs.Machine.{LinksLeadOn};
 ghost use Rattle.polite_flow.specs.Meetings.{RoutersArrive, RoutersDepart, TilesArrive, TilesDepart};
 ghost use Rattle.polite_flow.specs.Routers.{RoutersGiveWays, RoutersKeepWays};
@@ -67,4 +68,9 @@ pub fn law_meetings()
     ensures router_departs { RoutersDepart }
     ensures tile_arrives { TilesArrive }
     ensures router_arrives { RoutersArrive }
+{}
+
+/// At the start of a machine all packets of its routers, tiles and links are on their way, since there are none.
+pub fn law_fresh()
+    ensures { FreshPartsAreOnWay }
 {}
