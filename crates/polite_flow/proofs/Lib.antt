@@ -1,0 +1,12 @@
+pub mod Descent
+pub mod Directed
+pub mod Fresh
+pub mod Keys
+pub mod Links
+pub mod Meetings
+pub mod Passing
+pub mod Process
+pub mod Routed
+pub mod Routers
+pub mod Steps
+pub mod Tiles

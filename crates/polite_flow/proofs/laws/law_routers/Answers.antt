@@ -1,0 +1,8 @@
+use Rattle.polite_flow.proofs.Process.{gives_ways, keeps_ways}
+use Rattle.polite_flow.proofs.laws.law_routers.Goals as goal
+
+pub returns-clause-keep : goal.returns-clause-keep
+returns-clause-keep c = keeps_ways
+
+pub returns-clause-give : goal.returns-clause-give
+returns-clause-give c = gives_ways

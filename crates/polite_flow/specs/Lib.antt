@@ -1,0 +1,10 @@
+pub mod Flow
+pub mod Fresh
+pub mod Law
+pub mod Machine
+pub mod Meetings
+pub mod OnWay
+pub mod Places
+pub mod Ranks
+pub mod Routers
+pub mod Tiles
