@@ -5,3 +5,4 @@
 #[cfg(test)]
 mod note_tests;
 pub mod notes;
+pub mod work;

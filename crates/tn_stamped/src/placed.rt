@@ -1,6 +1,6 @@
 //! A stamped part at its place: each event of its journal is on that place.
 
-ghost use Rattle.std.specs.Prelude.{◌≡◌, ◌<◌, ◌≤◌, ◌&&◌, is_some, OnOk};
+ghost use Rattle.std.specs.Prelude.{◌≡◌, ◌<◌, ◌≤◌, ◌&&◌, ◌↔◌, is_some, IsTrue, OnOk};
 ghost use Rattle.tn_base.specs.declared.event.Event.TheVariants as event;
 ghost use Rattle.tn_stamped.specs.Doing.{DoesOne, DoesTurn, DoesTwoOr, IsReady};
 ghost use Rattle.tn_part.specs.Meeting.{IsJoined, IsNoTurn};
@@ -20,6 +20,7 @@ use tn_base::shape::Shape;
 use tn_link::link::Link;
 use tn_pages::stock::PageStock;
 use tn_part::part::LastTurn;
+use tn_part::site::Sites;
 use tn_stamp::item::Item;
 use tn_tile::deliver::Did;
 
@@ -88,6 +89,13 @@ impl<L: Link> Placed<L> {
         ensures { result.0 ≡ self.now.place }
     {
         self.place
+    }
+
+    /// Whether the part has this place in the machine of these places.
+    pub fn is_at(&self, sites: &Sites, p: PartId) -> bool
+        ensures { IsTrue result ↔ ((self.now.shape ≡ sites.now) × (self.now.place ≡ p.0)) }
+    {
+        self.shape == *sites.shape() && self.place == p
     }
 
     /// The stamped part, without its place.
