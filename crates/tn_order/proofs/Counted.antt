@@ -17,12 +17,13 @@ use Rattle.tn_thread.specs.Step.{Stepped, is_idle}
 use Rattle.tn_tile.specs.Rows.{told}
 use Rattle.tn_tile.specs.Step.{no_thread}
 use Rattle.tn_tile.specs.TileView.{TileView}
+use Rattle.tn_rows.specs.Visited.{released_part}
 use Rattle.tn_letters.specs.declared.steps.BagStep.{BagStep}
 use Rattle.tn_letters.specs.declared.steps.BagStep.TheVariants as bag
 use Rattle.tn_letters.specs.declared.steps.Seen.{Seen}
 use Rattle.tn_letters.specs.Law.{IsStart, StartsSo}
 use Rattle.tn_letters.specs.Machine.{BagRun, Happens, MayStep, answer, own_step, with_own_step}
-use Rattle.tn_letters.specs.Settled.{detector_on, released_part, settled}
+use Rattle.tn_letters.specs.Settled.{detector_on, settled}
 use Rattle.tn_letters.specs.State.{BagState, Program, put}
 use Rattle.tn_letters.specs.Steps.{event_steps}
 use Rattle.tn_letters.specs.Tiles.{part_for, program_of, thread_in, thread_of, tile_in}

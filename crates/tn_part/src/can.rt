@@ -18,7 +18,7 @@ fn part_at<M: HasParts>(machine: &M, p: PartId) -> Option<&Part<M::Link>>
     requires { IsWorld (M.world machine.now) }
     ensures { option_copied result ≡ slice_get (M.world machine.now).parts p.0 }
 {
-    if p.0 < machine.sites().shape().part_count() {
+    if p.0 < machine.sites().part_count() {
         Some(machine.part(p))
     } else {
         None
@@ -98,7 +98,7 @@ pub fn can_put<M: HasParts>(machine: &M) -> bool
     requires { IsWorld (M.world machine.now) }
     ensures { result ≡ is_some (happened event.HostPut (M.world machine.now)) }
 {
-    let l = from_host(machine.sites().shape());
+    let l = from_host(machine.sites());
     machine.part(PartId(0)).can_put(machine.part(l))
 }
 
@@ -107,7 +107,7 @@ pub fn can_take<M: HasParts>(machine: &M) -> bool
     requires { IsWorld (M.world machine.now) }
     ensures { result ≡ is_some (happened event.HostTake (M.world machine.now)) }
 {
-    let l = to_host(machine.sites().shape());
+    let l = to_host(machine.sites());
     machine.part(PartId(0)).can_take(machine.part(l))
 }
 
@@ -121,7 +121,7 @@ pub fn can_visit<M: HasParts>(machine: &M, visit: Visit, p: PartId) -> bool
     if p.0 >= shape.visited() {
         return false;
     }
-    let d = detector(shape);
+    let d = detector(machine.sites());
     machine.part(p).can_visit(machine.part(d), visit, p)
 }
 
@@ -130,7 +130,7 @@ pub fn can_begin<M: HasParts>(machine: &M) -> bool
     requires { IsWorld (M.world machine.now) }
     ensures { result ≡ is_some (happened event.Begin (M.world machine.now)) }
 {
-    let d = detector(machine.sites().shape());
+    let d = detector(machine.sites());
     machine.part(d).can_begin()
 }
 
@@ -139,6 +139,6 @@ pub fn can_announce<M: HasParts>(machine: &M) -> bool
     requires { IsWorld (M.world machine.now) }
     ensures { result ≡ is_some (happened event.Announce (M.world machine.now)) }
 {
-    let d = detector(machine.sites().shape());
+    let d = detector(machine.sites());
     machine.part(d).can_announce()
 }

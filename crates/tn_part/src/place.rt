@@ -4,6 +4,7 @@ ghost use Rattle.std.specs.Prelude.{◌≡◌, ◌-◌, option_map};
 ghost use Rattle.tn_base.specs.Parts.{part_count};
 ghost use Rattle.tn_rows.specs.Places.{detector_part, part_of};
 
+use crate::site::Sites;
 use tn_base::ids::{PartId, ThreadId};
 use tn_base::shape::Shape;
 
@@ -19,22 +20,22 @@ pub fn part_of(shape: &Shape, t: ThreadId) -> Option<PartId>
 }
 
 /// The link that leads away from the host.
-pub fn from_host(shape: &Shape) -> PartId
-    ensures { result.0 ≡ part_count shape.now - 2 }
+pub fn from_host(sites: &Sites) -> PartId
+    ensures { result.0 ≡ part_count sites.now - 2 }
 {
-    PartId(shape.part_count() - 2)
+    PartId(sites.part_count() - 2)
 }
 
 /// The link that leads to the host.
-pub fn to_host(shape: &Shape) -> PartId
-    ensures { result.0 ≡ part_count shape.now - 3 }
+pub fn to_host(sites: &Sites) -> PartId
+    ensures { result.0 ≡ part_count sites.now - 3 }
 {
-    PartId(shape.part_count() - 3)
+    PartId(sites.part_count() - 3)
 }
 
 /// The detector's place.
-pub fn detector(shape: &Shape) -> PartId
-    ensures { result.0 ≡ detector_part shape.now }
+pub fn detector(sites: &Sites) -> PartId
+    ensures { result.0 ≡ detector_part sites.now }
 {
-    PartId(shape.part_count() - 1)
+    PartId(sites.part_count() - 1)
 }

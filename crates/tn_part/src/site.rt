@@ -2,7 +2,7 @@
 
 ghost use Rattle.std.specs.Prelude.{◌≡◌, IfOk, MatchOption, None, Some, option_map, if◌then◌else◌};
 ghost use Rattle.tn_base.specs.declared.part.Kind.TheVariants as kind;
-ghost use Rattle.tn_base.specs.Parts.{kind_of};
+ghost use Rattle.tn_base.specs.Parts.{kind_of, part_count};
 ghost use Rattle.tn_rows.specs.Places.{is_router, leads_from, leads_to, link_side, link_way, places, side_between, way_between};
 ghost use Rattle.tn_part.specs.Meeting.{one_place, port_of};
 ghost use Rattle.tn_part.specs.Sites.{site_of, sites};
@@ -33,19 +33,19 @@ pub struct Site {
 #[derive(Drop)]
 pub struct Sites {
     shape: Shape,
+    count: u32,
     known: Vec<Site>,
 }
 
 impl Model for Sites {
-    ghost use Rattle.std.specs.Prelude.{◌≡◌};
     ghost use Rattle.tn_base.specs.declared.shape.ShapeNumbers.{ShapeNumbers};
-    ghost use Rattle.tn_part.specs.Sites.{sites};
+    ghost use Rattle.tn_part.specs.Sites.{AreKnown};
 
     ghost Value = { ShapeNumbers };
 
     ghost view = { λ s. s.shape };
 
-    ghost invariant = { λ s. s.known.items ≡ sites s.shape };
+    ghost invariant = { λ s. AreKnown s.shape s.count s.known.items };
 }
 
 impl Sites {
@@ -56,6 +56,7 @@ impl Sites {
         let known = sites_of(alloc, shape)?;
         Ok(Sites {
             shape: *shape,
+            count: shape.part_count(),
             known,
         })
     }
@@ -66,6 +67,7 @@ impl Sites {
     {
         Ok(Sites {
             shape: self.shape,
+            count: self.count,
             known: self.known.clone()?,
         })
     }
@@ -75,6 +77,13 @@ impl Sites {
         ensures { result.now ≡ self.now }
     {
         &self.shape
+    }
+
+    /// How many parts the machine has.
+    pub fn part_count(&self) -> u32
+        ensures { result ≡ part_count self.now }
+    {
+        self.count
     }
 
     /// What stands at each place, in order.
@@ -122,7 +131,7 @@ impl Sites {
         match *e {
             Event::Turn(t, _) | Event::Deliver(t) => part_of(&self.shape, t),
             Event::Route(p) => self.router_at(p),
-            Event::Begin | Event::Announce => Some(detector(&self.shape)),
+            Event::Begin | Event::Announce => Some(detector(self)),
             Event::Depart(_, _)
             | Event::Arrive(_, _)
             | Event::HostPut

@@ -32,7 +32,7 @@ impl<L: Link> World<L> {
         if p.0 >= self.shape.visited() {
             return Did::Nothing;
         }
-        let d = detector(&self.shape);
+        let d = detector(&self.sites);
         visit_at(&mut self.parts, visit, p, d)
     }
 
@@ -40,7 +40,7 @@ impl<L: Link> World<L> {
     pub(crate) fn begin(&mut self) -> Did
         ensures { Does (moved result) (happened event.Begin self.old) self.old self.new }
     {
-        let d = detector(&self.shape);
+        let d = detector(&self.sites);
         self.parts[d.0 as usize].begin()
     }
 
@@ -48,7 +48,7 @@ impl<L: Link> World<L> {
     pub(crate) fn announce(&mut self) -> Did
         ensures { Does (moved result) (happened event.Announce self.old) self.old self.new }
     {
-        let d = detector(&self.shape);
+        let d = detector(&self.sites);
         self.parts[d.0 as usize].announce()
     }
 
@@ -56,7 +56,7 @@ impl<L: Link> World<L> {
     pub(crate) fn done(&self) -> Option<Outcome>
         ensures { result ≡ option_and_then done_on (slice_get self.now.parts (detector_part self.now.shape)) }
     {
-        let d = detector(&self.shape);
+        let d = detector(&self.sites);
         self.parts.get(d.0 as usize)?.done()
     }
 }

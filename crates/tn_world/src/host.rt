@@ -23,7 +23,7 @@ impl<L: Link> World<L> {
     pub(crate) fn host_put(&mut self) -> Did
         ensures { Does (moved result) (happened event.HostPut self.old) self.old self.new }
     {
-        let l = from_host(&self.shape);
+        let l = from_host(&self.sites);
         put_at(&mut self.parts, l)
     }
 
@@ -31,7 +31,7 @@ impl<L: Link> World<L> {
     pub(crate) fn host_take(&mut self) -> Result<Did, AllocError>
         ensures { MatchResult result (λ did. Does (moved did) (happened event.HostTake self.old) self.old self.new) (λ _. self.new ≡ self.old) }
     {
-        let l = to_host(&self.shape);
+        let l = to_host(&self.sites);
         take_at(&mut self.parts, l)
     }
 }

@@ -126,7 +126,7 @@ fn next_tried<L: Link>(world: &World<L>, agenda: &mut Agenda) -> Option<Event> {
 fn is_empty_arrival<L: Link>(world: &World<L>, e: &Event) -> bool {
     let l = match *e {
         Event::Arrive(l, _) => l,
-        Event::HostTake => to_host(&world.shape),
+        Event::HostTake => to_host(&world.sites),
         _ => return false,
     };
     match world.parts.get(l.0 as usize) {

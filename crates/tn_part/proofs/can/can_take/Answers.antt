@@ -10,5 +10,5 @@ use Rattle.tn_rows.specs.Roles.{IsLink}
 pub can_take-requires-clause-link : goal.can_take-requires-clause-link
 can_take-requires-clause-link g c =
     let w = g.M.HasParts.world c.args.machine.now in
-    let at : c.to_host-l.result.0 ≡ part_count w.shape - 3 = c.to_host-l.ensures ∙ ap (λ (n : ShapeNumbers). part_count n - 3) (c.shape.ensures ∙ c.sites.ensures) in
+    let at : c.to_host-l.result.0 ≡ part_count w.shape - 3 = c.to_host-l.ensures ∙ ap (λ (n : ShapeNumbers). part_count n - 3) c.sites.ensures in
     subst IsLink (seen w.parts c.to_host-l.result.0 c.part-2.result.now c.part-2.ensures) (subst (λ l. IsLink (get_or w.parts l AbsentV)) (sym at) (to_host_pair w c.requires).link)

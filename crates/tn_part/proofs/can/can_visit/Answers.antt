@@ -24,7 +24,7 @@ pub can_visit-requires : goal.can_visit-requires
 can_visit-requires g c =
     let w = g.M.HasParts.world c.args.machine.now in
     let same = c.shape-shape.ensures ∙ c.sites.ensures in
-    let at : c.detector-d.result.0 ≡ detector_part w.shape = c.detector-d.ensures ∙ ap (λ (n : ShapeNumbers). detector_part n) same in
+    let at : c.detector-d.result.0 ≡ detector_part w.shape = c.detector-d.ensures ∙ ap (λ (n : ShapeNumbers). detector_part n) c.sites-2.ensures in
     let less : c.args.p.0 < visited w.shape = subst (λ (n : ShapeNumbers). c.args.p.0 < visited n) same (omega (arith, c.if-p-visited.false, c.visited.ensures.value)) in
     let joins : VisitPair w c.args.p.0 c.detector-d.result.0 = subst (VisitPair w c.args.p.0) (sym at) (visit_pair w c.args.p.0 less (subst Behind same c.law_links.ensures) c.requires) in
     subst (Visits c.args.p.0) (seen w.parts c.detector-d.result.0 c.part-2.result.now c.part-2.ensures) joins.visits
@@ -34,7 +34,7 @@ returns g c =
     let w : WorldView = g.M.HasParts.world c.args.machine.now in
     let e = visit_event c.args.visit c.args.p in
     let same = c.shape-shape.ensures ∙ c.sites.ensures in
-    let at : c.detector-d.result.0 ≡ detector_part w.shape = c.detector-d.ensures ∙ ap (λ (n : ShapeNumbers). detector_part n) same in
+    let at : c.detector-d.result.0 ≡ detector_part w.shape = c.detector-d.ensures ∙ ap (λ (n : ShapeNumbers). detector_part n) c.sites-2.ensures in
     let less : c.args.p.0 < visited w.shape = subst (λ (n : ShapeNumbers). c.args.p.0 < visited n) same (omega (arith, c.if-p-visited.false, c.visited.ensures.value)) in
     subst (λ (o : Option WorldView). c.can_visit.result ≡ is_some o) (sym (visit_is w c.args.visit c.args.p))
     (subst (λ d. c.can_visit.result ≡ is_some (happened_at e w (two_if (ltb c.args.p.0 (visited w.shape)) c.args.p.0 d))) at

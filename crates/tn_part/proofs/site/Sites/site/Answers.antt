@@ -6,7 +6,7 @@ use Rattle.tn_part.proofs.site.Sites.site.Goals as goal
 
 pub returns : goal.returns
 returns c =
-    let all : c.deref.result.now ≡ sites c.args.self.now = c.deref.ensures.value ∙ c.self.invariant ∙ ap sites c.self.view_is in
+    let all : c.deref.result.now ≡ sites c.args.self.now = c.deref.ensures.value ∙ c.self.invariant.all ∙ ap sites c.self.view_is in
     let looked = c.get.ensures.lookup in
     found c.args.self.now c.args.p.0 c.get.result
     (subst (λ (xs : List Site). is_some c.get.result ≡ nat_lt c.args.p.0 (length xs)) all looked.0)
