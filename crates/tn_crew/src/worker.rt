@@ -117,7 +117,7 @@ fn is_empty(
 fn link_of(sites: &Sites, e: &Event) -> Option<PartId> {
     match *e {
         Event::Arrive(l, _) => Some(l),
-        Event::HostTake => Some(to_host(sites.shape())),
+        Event::HostTake => Some(to_host(sites)),
         _ => None,
     }
 }
@@ -203,7 +203,7 @@ fn next_step<G: Gate>(
 {
     let stop = agenda.stop();
     let rests = stop.is_none();
-    let p = stop.unwrap_or(detector(sites.shape()));
+    let p = stop.unwrap_or(detector(sites));
     if p.0 >= sites.shape().part_count() {
         return Step::Idle;
     }

@@ -7,7 +7,6 @@ use tn_base::event::Event;
 use tn_base::ids::PartId;
 use tn_base::laws::{law_links, law_tile_parts, law_tile_threads};
 use tn_base::port::Port;
-use tn_base::shape::Shape;
 use tn_part::place::{detector, from_host, to_host};
 use tn_part::site::Sites;
 
@@ -34,7 +33,7 @@ pub fn parts_of(sites: &Sites, e: &Event) -> EventParts
     let Some(at) = sites.port_of(e) else {
         return EventParts::Nowhere;
     };
-    EventParts::Two(lesser_of(e), greater_of(sites.shape(), e), at)
+    EventParts::Two(lesser_of(e), greater_of(sites, e), at)
 }
 
 fn lesser_of(e: &Event) -> PartId
@@ -57,13 +56,13 @@ fn lesser_of(e: &Event) -> PartId
     }
 }
 
-fn greater_of(shape: &Shape, e: &Event) -> PartId
-    ensures { result.0 ≡ greater_of shape.now e.now }
+fn greater_of(sites: &Sites, e: &Event) -> PartId
+    ensures { result.0 ≡ greater_of sites.now e.now }
 {
     match *e {
         Event::Depart(_, l) | Event::Arrive(l, _) => l,
-        Event::HostPut => from_host(shape),
-        Event::HostTake => to_host(shape),
+        Event::HostPut => from_host(sites),
+        Event::HostTake => to_host(sites),
         Event::Report(_)
         | Event::Confirm(_)
         | Event::Release(_)
@@ -72,6 +71,6 @@ fn greater_of(shape: &Shape, e: &Event) -> PartId
         | Event::Deliver(_)
         | Event::Route(_)
         | Event::Begin
-        | Event::Announce => detector(shape),
+        | Event::Announce => detector(sites),
     }
 }

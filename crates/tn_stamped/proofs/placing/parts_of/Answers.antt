@@ -20,4 +20,4 @@ pub returns-in_default-port_of : goal.returns-in_default-port_of
 returns-in_default-port_of c = nowhere_is c.args.sites.now c.args.e.now (sym c.in_default.ensures) (sym c.in_default-port_of.ensures)
 
 pub returns : goal.returns
-returns c = rw (c.lesser_of.ensures, c.greater_of.ensures, c.shape-4.ensures) (pair_is c.args.sites.now c.args.e.now c.in-Some-port_of.at (subst Behind c.shape.ensures c.law_links.ensures) (sym c.port_of.ensures ∙ c.in-Some-port_of.is))
+returns c = rw (c.lesser_of.ensures, c.greater_of.ensures) (pair_is c.args.sites.now c.args.e.now c.in-Some-port_of.at (subst Behind c.shape.ensures c.law_links.ensures) (sym c.port_of.ensures ∙ c.in-Some-port_of.is))
