@@ -1,7 +1,14 @@
-//! What the workers of a run share besides the parts. So far: the notes by which workers tell each other which stops may have
-//! something to do. A stop is a part that is no link. Notes are advice: a lost note costs time, and no event is lost.
+//! The workers of a run in threads: how a worker takes the turns of parts, makes an event on them, and gives the parts back. A worker
+//! has no turn between two events. Notes by which workers tell each other which stops may have something to do are advice: a lost note
+//! costs time, and no event is lost. A stop is a part that is no link.
+//!
+//! Read `making` first, then `work`, then `worker`.
 #![tactic(auto)]
 
+pub mod making;
 #[cfg(test)]
 mod note_tests;
 pub mod notes;
+pub mod signals;
+pub mod work;
+pub mod worker;

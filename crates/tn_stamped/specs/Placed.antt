@@ -2,8 +2,8 @@
 use Rattle.std.specs.Prelude.{ℕ, ◌≡◌, ◌+◌, ◌++◌, List, [], ◌∷◌, map}
 use Rattle.std.specs.List.{All}
 use Rattle.tn_base.specs.declared.shape.ShapeNumbers.{ShapeNumbers}
-use Rattle.tn_base.specs.Parts.{part_count}
-use Rattle.tn_rows.specs.Events.{IsWorld}
+use Rattle.tn_base.specs.Parts.{kind_of, part_count}
+use Rattle.tn_rows.specs.Events.{FitsKind, IsWorld}
 use Rattle.tn_rows.specs.PartView.{PartView}
 use Rattle.tn_rows.specs.Stamped.{AreJournals, StampedView, StandsAt, machine, starts_of}
 use Rattle.tn_stamp.specs.declared.entry.Entry.{Entry}
@@ -19,6 +19,10 @@ pub record PlacedView : Type 0 where
 -- each entry of the part's journal is of an event on the part's place
 abbrev pub StandsHere : PlacedView → Type 0
 StandsHere p = All (StandsAt p.shape p.place) p.stamped.entries
+
+-- the part is what the shape names at its place
+abbrev pub FitsHere : PlacedView → Type 0
+FitsHere p = FitsKind p.shape (kind_of p.shape p.place) p.stamped.present
 
 -- a part as it began, at its place: what no event changes
 abbrev pub began_with : PartView → ShapeNumbers → ℕ → PlacedView

@@ -6,5 +6,6 @@
 pub mod doing;
 pub mod laws;
 pub mod placed;
+pub mod placing;
 pub mod present;
 pub mod stamped;

@@ -1,10 +1,10 @@
-//! A stamped part at its place: each event of its journal is on that place.
+//! A stamped part at its place: it is what the shape names there, and each event of its journal is on that place.
 
-ghost use Rattle.std.specs.Prelude.{◌≡◌, ◌<◌, ◌≤◌, ◌&&◌, is_some, OnOk};
+ghost use Rattle.std.specs.Prelude.{◌≡◌, ◌<◌, ◌≤◌, ◌&&◌, ◌↔◌, is_some, IsTrue, OnOk, Some};
 ghost use Rattle.tn_base.specs.declared.event.Event.TheVariants as event;
 ghost use Rattle.tn_stamped.specs.Doing.{DoesOne, DoesTurn, DoesTwoOr, IsReady};
-ghost use Rattle.tn_part.specs.Meeting.{IsJoined, IsNoTurn};
-ghost use Rattle.tn_stamped.specs.Placed.{GrewAlone, GrewTogether, StandsHere};
+ghost use Rattle.tn_part.specs.Meeting.{IsNoTurn, port_of};
+ghost use Rattle.tn_stamped.specs.Placed.{FitsHere, GrewAlone, GrewTogether, StandsHere};
 ghost use Rattle.tn_part.specs.Turning.{did_turn};
 ghost use Rattle.tn_rows.specs.Ends.{ended_on};
 ghost use Rattle.tn_rows.specs.Places.{One, Two, places};
@@ -15,15 +15,18 @@ use std::alloc::AllocError;
 use std::marker::Model;
 use tn_base::event::Event;
 use tn_base::ids::{PartId, ThreadId};
+use tn_base::laws::law_links;
 use tn_base::port::Port;
 use tn_base::shape::Shape;
 use tn_link::link::Link;
 use tn_pages::stock::PageStock;
 use tn_part::part::LastTurn;
+use tn_part::site::Sites;
 use tn_stamp::item::Item;
 use tn_tile::deliver::Did;
 
-/// A stamped part, and its place in a machine of a shape. Each event of its journal is on this place.
+/// A stamped part, and its place in a machine of a shape. The part is what the shape names there, and each event of its journal is
+/// on this place.
 #[derive(Drop)]
 pub struct Placed<L: Link> {
     stamped: Stamped<L>,
@@ -33,6 +36,8 @@ pub struct Placed<L: Link> {
 
 impl<L: Link> Model for Placed<L> {
     ghost use Rattle.std.specs.List.{All};
+    ghost use Rattle.tn_base.specs.Parts.{kind_of};
+    ghost use Rattle.tn_rows.specs.Events.{FitsKind};
     ghost use Rattle.tn_stamped.specs.Placed.{PlacedView};
     ghost use Rattle.tn_rows.specs.Stamped.{StandsAt};
 
@@ -40,7 +45,10 @@ impl<L: Link> Model for Placed<L> {
 
     ghost view = { λ p. record { stamped = p.stamped; shape = p.shape; place = p.place.0 } };
 
-    ghost invariant = { λ p. All (StandsAt p.shape p.place.0) p.stamped.entries };
+    ghost invariant = { λ p. record {
+      here : All (StandsAt p.shape p.place.0) p.stamped.entries;
+      fits : FitsKind p.shape (kind_of p.shape p.place.0) p.stamped.present;
+    } };
 }
 
 impl<L: Link> Item for Placed<L> {
@@ -54,9 +62,10 @@ impl<L: Link> Item for Placed<L> {
 }
 
 impl<L: Link> Placed<L> {
-    /// A stamped part at its place. Each event of its journal is on this place.
+    /// A stamped part at its place. The shape names such a part there, and each event of its journal is on this place.
     pub fn of(shape: Shape, place: PartId, stamped: Stamped<L>) -> Placed<L>
-        requires { StandsHere (record { stamped = stamped; shape = shape; place = place.0 }) }
+        requires here { StandsHere (record { stamped = stamped; shape = shape; place = place.0 }) }
+        requires fits { FitsHere (record { stamped = stamped; shape = shape; place = place.0 }) }
         ensures { result ≡ record { stamped = stamped; shape = shape; place = place.0 } }
     {
         Placed {
@@ -79,6 +88,7 @@ impl<L: Link> Placed<L> {
     pub fn stamped(&self) -> &Stamped<L>
         ensures stamped { result.now ≡ self.now.stamped }
         ensures here { StandsHere self.now }
+        ensures fits { FitsHere self.now }
     {
         &self.stamped
     }
@@ -88,6 +98,13 @@ impl<L: Link> Placed<L> {
         ensures { result.0 ≡ self.now.place }
     {
         self.place
+    }
+
+    /// Whether the part has this place in the machine of these places.
+    pub fn is_at(&self, sites: &Sites, p: PartId) -> bool
+        ensures { IsTrue result ↔ ((self.now.shape ≡ sites.now) × (self.now.place ≡ p.0)) }
+    {
+        self.shape == *sites.shape() && self.place == p
     }
 
     /// The stamped part, without its place.
@@ -127,7 +144,7 @@ impl<L: Link> Placed<L> {
     pub fn two(&mut self, high: &mut Placed<L>, e: Event, at: Port) -> Result<Did, AllocError>
         requires here { places self.old.shape e ≡ Two self.old.place high.old.place }
         requires same { high.old.shape ≡ self.old.shape }
-        requires joined { IsJoined e self.old.stamped.present high.old.stamped.present at }
+        requires port { port_of self.old.shape e ≡ Some at }
         requires ready { IsReady self.old.stamped }
         requires high_ready { IsReady high.old.stamped }
         ensures event { DoesTwoOr result e self.old.stamped high.old.stamped self.new.stamped high.new.stamped }
@@ -135,6 +152,7 @@ impl<L: Link> Placed<L> {
         ensures stays { (self.new.shape ≡ self.old.shape) × (self.new.place ≡ self.old.place) }
         ensures high_stays { (high.new.shape ≡ high.old.shape) × (high.new.place ≡ high.old.place) }
     {
+        law_links(&self.shape);
         self.stamped.two(&mut high.stamped, e, at)
     }
 }

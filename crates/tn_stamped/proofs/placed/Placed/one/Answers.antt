@@ -1,3 +1,4 @@
+use Rattle.tn_stamped.proofs.Fitting.{one_fits}
 use Rattle.tn_stamped.proofs.Entries.{one_stands}
 use Rattle.tn_stamped.proofs.placed.Placed.one.Goals as goal
 use Rattle.tn_tile.specs.Turns.{moved}
@@ -6,7 +7,10 @@ use Rattle.tn_stamped.proofs.Giving.{one_grows}
 use Rattle.tn_stamped.specs.Placed.{GrewAlone, PlacedView}
 
 pub invariant_of-self : goal.invariant_of-self
-invariant_of-self g c = one_stands c.self.inside.shape c.self.inside.place.0 c.self.inside.stamped c.one.new.self (moved c.one.result) c.args.e (rw (← c.self.view_is) at c.requires.here) c.one.ensures c.self.invariant
+invariant_of-self g c = record {
+  here = one_stands c.self.inside.shape c.self.inside.place.0 c.self.inside.stamped c.one.new.self (moved c.one.result) c.args.e (rw (← c.self.view_is) at c.requires.here) c.one.ensures c.self.invariant.here;
+  fits = one_fits c.self.inside.shape _ c.self.inside.stamped c.one.new.self (moved c.one.result) c.args.e c.one.ensures c.self.invariant.fits;
+}
 
 pub returns-clause-grows : goal.returns-clause-grows
 returns-clause-grows g c =

@@ -1,3 +1,4 @@
+use Rattle.tn_stamped.proofs.Fitting.{turn_fits}
 use Rattle.tn_stamped.proofs.Entries.{turn_stands}
 use Rattle.tn_stamped.proofs.placed.Placed.turn.Goals as goal
 use Rattle.std.proofs.Common.{subst}
@@ -5,7 +6,10 @@ use Rattle.tn_stamped.proofs.Giving.{turn_grows}
 use Rattle.tn_stamped.specs.Placed.{GrewAlone, PlacedView}
 
 pub invariant_of-self : goal.invariant_of-self
-invariant_of-self g c = turn_stands c.self.inside.shape c.self.inside.place.0 c.self.inside.stamped c.turn.new.self c.turn.result.turned c.args.t (rw (← c.self.view_is) at c.requires.here) c.turn.ensures.turn c.self.invariant
+invariant_of-self g c = record {
+  here = turn_stands c.self.inside.shape c.self.inside.place.0 c.self.inside.stamped c.turn.new.self c.turn.result.turned c.args.t (rw (← c.self.view_is) at c.requires.here) c.turn.ensures.turn c.self.invariant.here;
+  fits = turn_fits c.self.inside.shape _ c.self.inside.stamped c.turn.new.self c.turn.result.turned c.args.t c.turn.ensures.turn c.self.invariant.fits;
+}
 
 pub returns-clause-grows : goal.returns-clause-grows
 returns-clause-grows g c =
