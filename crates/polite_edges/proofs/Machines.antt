@@ -12,13 +12,14 @@ use Rattle.tn_quiet.specs.Law.{IsQuietWorld}
 use Rattle.tn_quiet.proofs.Runs.{event_quiet}
 use Rattle.tn_rows.specs.PartView.{PartView, TileV, RouterV, LinkV, HostV, DetectorV, AbsentV}
 use Rattle.tn_rows.specs.Runs.{Walk}
+use Rattle.tn_rows.specs.Visited.{released_part}
 use Rattle.tn_rows.specs.WorldView.{WorldView}
 use Rattle.tn_thread.specs.declared.thread.Thread.{Thread}
 use Rattle.tn_thread.specs.Step.{is_idle}
 use Rattle.tn_tile.specs.Rows.{told}
 use Rattle.tn_tile.specs.Step.{no_thread}
 use Rattle.tn_letters.specs.Law.{IsBagRun}
-use Rattle.tn_letters.specs.Settled.{detector_on, released_part, settled}
+use Rattle.tn_letters.specs.Settled.{detector_on, settled}
 use Rattle.tn_letters.specs.Standing.{bag_at}
 use Rattle.tn_letters.specs.State.{Program}
 use Rattle.tn_letters.specs.Steps.{bag_of}
