@@ -11,6 +11,7 @@ use Rattle.tn_quiet.proofs.Runs.{event_quiet}
 use Rattle.tn_rows.specs.Events.{happened}
 use Rattle.tn_rows.specs.PartView.{PartView, TileV, RouterV, LinkV, HostV, DetectorV, AbsentV}
 use Rattle.tn_rows.specs.Runs.{Walk}
+use Rattle.tn_rows.specs.Visited.{released_part}
 use Rattle.tn_rows.specs.WorldView.{WorldView}
 use Rattle.tn_thread.specs.declared.thread.Thread.{Thread}
 use Rattle.tn_thread.specs.Step.{Stepped, is_idle}
@@ -22,7 +23,7 @@ use Rattle.tn_letters.specs.declared.steps.BagStep.TheVariants as bag
 use Rattle.tn_letters.specs.declared.steps.Seen.{Seen}
 use Rattle.tn_letters.specs.Law.{IsStart, StartsSo}
 use Rattle.tn_letters.specs.Machine.{BagRun, Happens, MayStep, answer, own_step, with_own_step}
-use Rattle.tn_letters.specs.Settled.{detector_on, released_part, settled}
+use Rattle.tn_letters.specs.Settled.{detector_on, settled}
 use Rattle.tn_letters.specs.State.{BagState, Program, put}
 use Rattle.tn_letters.specs.Steps.{event_steps}
 use Rattle.tn_letters.specs.Tiles.{part_for, program_of, thread_in, thread_of, tile_in}

@@ -39,6 +39,7 @@ use Rattle.tn_rows.proofs.HostLinks.{link_from_host, link_to_host}
 use Rattle.tn_rows.specs.Events.{after, carried, crossing_of, happened, meets, with_part}
 use Rattle.tn_rows.specs.PartView.{PartView, TileV, RouterV, LinkV, HostV, DetectorV, AbsentV}
 use Rattle.tn_rows.specs.Places.{detector_part, part_of, two_if}
+use Rattle.tn_rows.specs.Visited.{going_part, released_part, whitened_part}
 use Rattle.tn_rows.specs.WorldView.{WorldView}
 use Rattle.tn_rows.proofs.Meeting.{mapped}
 use Rattle.tn_stamp.specs.declared.entry.Crossing.{Crossing}
@@ -50,11 +51,10 @@ use Rattle.tn_tile.specs.Step.{can_step, step_at_place, stepped, steps_of, threa
 use Rattle.tn_tile.specs.TileView.{TileView, now_by, with_now}
 use Rattle.tn_tile.proofs.Steps.{taken}
 use Rattle.tn_letters.specs.Letters.{host_address}
-use Rattle.tn_letters.specs.Settled.{released_part}
 use Rattle.tn_letters.specs.Steps.{after_step, meeting_steps, part_steps, put_steps, send_steps, steps_at, take_steps}
 use Rattle.tn_letters.specs.Tiles.{reach_of, tile_for}
 use Rattle.tn_letters.proofs.Crossings.{put_is, take_is}
-use Rattle.tn_letters.proofs.Detected.{Alone, Paired, alone, confirm_paired, go_paired, going_part, release_paired, report_paired, whitened_part}
+use Rattle.tn_letters.proofs.Detected.{Alone, Paired, alone, confirm_paired, go_paired, release_paired, report_paired}
 use Rattle.tn_letters.proofs.Lift.{Good, GoodLink, IsForHost, OnPart, leads_to_host, on_new, part_is, part_on, stands_on, tile_is, twice, with_tile}
 use Rattle.tn_letters.proofs.Links.{two_parts}
 use Rattle.tn_letters.proofs.Simulate.{Place}
