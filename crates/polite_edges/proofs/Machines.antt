@@ -18,6 +18,7 @@ use Rattle.tn_thread.specs.declared.thread.Thread.{Thread}
 use Rattle.tn_thread.specs.Step.{is_idle}
 use Rattle.tn_tile.specs.Rows.{told}
 use Rattle.tn_tile.specs.Step.{no_thread}
+use Rattle.tn_rows.specs.Visited.{released_part}
 use Rattle.tn_letters.specs.Law.{IsBagRun}
 use Rattle.tn_letters.specs.Settled.{detector_on, settled}
 use Rattle.tn_letters.specs.Standing.{bag_at}

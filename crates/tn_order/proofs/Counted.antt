@@ -18,6 +18,7 @@ use Rattle.tn_thread.specs.Step.{Stepped, is_idle}
 use Rattle.tn_tile.specs.Rows.{told}
 use Rattle.tn_tile.specs.Step.{no_thread}
 use Rattle.tn_tile.specs.TileView.{TileView}
+use Rattle.tn_rows.specs.Visited.{released_part}
 use Rattle.tn_letters.specs.declared.steps.BagStep.{BagStep}
 use Rattle.tn_letters.specs.declared.steps.BagStep.TheVariants as bag
 use Rattle.tn_letters.specs.declared.steps.Seen.{Seen}

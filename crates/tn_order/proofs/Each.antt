@@ -105,7 +105,7 @@ outcome_sits s goal mine past w new reach v k limits shaped fits there (inr x) =
 
 -- ---- events that do nothing
 
-nothing_two : (e : Event) (w : WorldView) (b : Bool) (p q : ℕ) → ((low high : Option PartView) → meeting_steps (reach_of w) e low high ≡ []) → flat_map step_ends (steps_at e w (two_if b p q)) ≡ []
+pub nothing_two : (e : Event) (w : WorldView) (b : Bool) (p q : ℕ) → ((low high : Option PartView) → meeting_steps (reach_of w) e low high ≡ []) → flat_map step_ends (steps_at e w (two_if b p q)) ≡ []
 nothing_two e w true p q none = ap (flat_map step_ends) (none _ _)
 nothing_two e w false p q none = refl
 
@@ -118,7 +118,7 @@ route_part reach q (Some (HostV h)) = refl
 route_part reach q (Some (DetectorV v)) = refl
 route_part reach q (Some AbsentV) = refl
 
-nothing_route : (q : PartId) (w : WorldView) (b : Bool) → flat_map step_ends (steps_at (event.Route q) w (one_if b q.0)) ≡ []
+pub nothing_route : (q : PartId) (w : WorldView) (b : Bool) → flat_map step_ends (steps_at (event.Route q) w (one_if b q.0)) ≡ []
 nothing_route q w true = ap (flat_map step_ends) (route_part (reach_of w) q (slice_get w.parts q.0))
 nothing_route q w false = refl
 

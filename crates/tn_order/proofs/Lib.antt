@@ -1,8 +1,10 @@
 pub mod Acting
+pub mod Choosing
 pub mod Counted
 pub mod Crossing
 pub mod Dropping
 pub mod Each
+pub mod Histories
 pub mod Keeps
 pub mod Landing
 pub mod Moving
@@ -14,9 +16,12 @@ pub mod Passing
 pub mod Rises
 pub mod Rising
 pub mod Routing
+pub mod Sending
+pub mod Sends
 pub mod SpotNet
 pub mod Stamps
 pub mod Steps
 pub mod Tiles
 pub mod Turning
+pub mod Turns
 pub mod Views

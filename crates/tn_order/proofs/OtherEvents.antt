@@ -50,6 +50,7 @@ use Rattle.tn_tile.specs.Receivers.{receivers}
 use Rattle.tn_tile.specs.Step.{can_step, step_at_place, stepped, steps_of, thread_at}
 use Rattle.tn_tile.specs.TileView.{TileView, now_by, with_now}
 use Rattle.tn_tile.proofs.Steps.{taken}
+use Rattle.tn_rows.specs.Visited.{going_part, released_part, whitened_part}
 use Rattle.tn_letters.specs.Letters.{host_address}
 use Rattle.tn_letters.specs.Steps.{after_step, meeting_steps, part_steps, put_steps, send_steps, steps_at, take_steps}
 use Rattle.tn_letters.specs.Tiles.{reach_of, tile_for}
@@ -87,7 +88,7 @@ fits_rest n goal mine [] ys past f = f
 fits_rest n goal mine (x ∷ xs) ys past f = fits_rest n goal mine xs ys (x ∷ past) f.1
 
 -- a step that asks for a send does this send first
-send_fits : (n : ShapeNumbers) (goal : Dest) (mine : ℕ → ℕ → Bool) (past rest : List Act) (a number : ℕ) (o : Op) (to : Dest) (bytes : List ℕ) → o ≡ op.Send to bytes → ActsFit n goal mine past (sent_with a number o ++ rest) → mine a number ≡ true → SendFits n goal mine past number to
+pub send_fits : (n : ShapeNumbers) (goal : Dest) (mine : ℕ → ℕ → Bool) (past rest : List Act) (a number : ℕ) (o : Op) (to : Dest) (bytes : List ℕ) → o ≡ op.Send to bytes → ActsFit n goal mine past (sent_with a number o ++ rest) → mine a number ≡ true → SendFits n goal mine past number to
 send_fits n goal mine past rest a number o to bytes e f meant = (subst (λ x. ActsFit n goal mine past (sent_with a number x ++ rest)) e f).0 meant
 
 -- ---- a turn
@@ -120,7 +121,7 @@ turn_keeps (suc n) s goal mine past w p a k v new own there c is fits kept =
     subst (λ acts. Sits s goal mine acts w (with_tile w p (with_now v new))) (sym (behind_join (step_acts a k v) (turn_acts a k n (after_step k v)) past))
     (subst (λ (x : WorldView). Sits s goal mine (behind (turn_acts a k n (after_step k v)) (behind (step_acts a k v) past)) w x) (twice w p (after_step k v) (with_now v new)) end)
 
-first_of_four : (a b c d : Bool) → (a && b && c && d) ≡ true → a ≡ true
+pub first_of_four : (a b c d : Bool) → (a && b && c && d) ≡ true → a ≡ true
 first_of_four true b c d e = refl
 first_of_four false b c d e = cc e
 
@@ -156,22 +157,22 @@ host_spots : (goal : Dest) (h : HostState) (x : PartView) → ((r : Spot) → st
 host_spots goal h x none r = none r
 
 -- the host's part stays a host
-host_after : (e : Event) (c : Crossing) (h : HostState) (y : PartView) → after e c (HostV h) ≡ Some y → (g : HostState) × (y ≡ HostV g)
+pub host_after : (e : Event) (c : Crossing) (h : HostState) (y : PartView) → after e c (HostV h) ≡ Some y → (g : HostState) × (y ≡ HostV g)
 host_after e c h y row = let m = mapped HostV _ y row in (m.0, sym m.2)
 
 -- the host's next message as a packet
-record Offers (h : HostState) (k : Packet) : Type 0 where
+pub record Offers (h : HostState) (k : Packet) : Type 0 where
   pub t : ThreadId
   pub bytes : List ℕ
   pub next : first_item h.script ≡ Some (item.Send t bytes)
   pub is : k ≡ record { origin = host_address; number = h.sends; dest = dest.Thread t; bytes = bytes }
 
-offers_by : (h : HostState) (k : Packet) (o : Option ScriptItem) → first_item h.script ≡ o → host_packet h.sends o ≡ Some k → Offers h k
+pub offers_by : (h : HostState) (k : Packet) (o : Option ScriptItem) → first_item h.script ≡ o → host_packet h.sends o ≡ Some k → Offers h k
 offers_by h k None e f = cc f
 offers_by h k (Some item.AwaitIdle) e f = cc f
 offers_by h k (Some (item.Send t bytes)) e f = record { t = t; bytes = bytes; next = e; is = sym (ap (λ (o : Option Packet). unwrap_or o k) f) }
 
-not_held : {A : Type 0} (held : Bool) (o : Option A) (k : A) → cond held None o ≡ Some k → o ≡ Some k
+pub not_held : {A : Type 0} (held : Bool) (o : Option A) (k : A) → cond held None o ≡ Some k → o ≡ Some k
 not_held true o k e = cc e
 not_held false o k e = e
 
@@ -341,7 +342,7 @@ alone_keeps s goal mine past w new d good r kept =
     (lift_same_on goal w (detector_part w.shape) (DetectorV r.detector) (DetectorV (detector_with_now r.detector r.behind)) r.detector_on (λ z e. refl)) kept)
 
 -- an event on a part and the detector does nothing
-no_acts : (e : Event) (w : WorldView) (b : Bool) (p : ℕ) → ((low high : Option PartView) → meeting_steps (reach_of w) e low high ≡ []) → flat_map step_ends (steps_at e w (two_if b p (detector_part w.shape))) ≡ []
+pub no_acts : (e : Event) (w : WorldView) (b : Bool) (p : ℕ) → ((low high : Option PartView) → meeting_steps (reach_of w) e low high ≡ []) → flat_map step_ends (steps_at e w (two_if b p (detector_part w.shape))) ≡ []
 no_acts e w true p none = ap (flat_map step_ends) (none _ _)
 no_acts e w false p none = refl
 

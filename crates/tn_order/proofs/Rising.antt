@@ -33,7 +33,7 @@ own_counts : (m : Program) (b : ℕ) (seen : Seen) (s : BagState) → Counts (s.
 own_counts m b seen s = next_counts (m.code b) _ (s.threads b)
 
 -- the threads after a step: one thread made its own step, the idle threads are told, or no thread changes
-record Own (m : Program) (b : ℕ) (seen : Seen) (s t : BagState) : Type 0 where
+pub record Own (m : Program) (b : ℕ) (seen : Seen) (s t : BagState) : Type 0 where
   pub may : MayStep m s b seen
   pub is : t.threads ≡ put s.threads b (own_step m b seen s).thread
   pub host : t.host_sends ≡ s.host_sends
@@ -56,12 +56,12 @@ sent_host m b number (op.Idle vote) s t e = cc e
 sent_host m b number (op.Kill value) s t e = cc e
 sent_host m b number (op.Trap why) s t e = cc e
 
-data Kinds (m : Program) (s t : BagState) : Type 0 where
+pub data Kinds (m : Program) (s t : BagState) : Type 0 where
   Stepping : (b : ℕ) (seen : Seen) (is : Own m b seen s t) → Kinds m s t
   Telling : (is : t.threads ≡ (λ a. told (answer m.shape s) (s.threads a))) (host : t.host_sends ≡ s.host_sends) → Kinds m s t
   Staying : (is : t.threads ≡ s.threads) (host : s.host_sends ≤ t.host_sends) → Kinds m s t
 
-kinds : (m : Program) (x : BagStep) (s t : BagState) → Happens m x s t → Kinds m s t
+pub kinds : (m : Program) (x : BagStep) (s t : BagState) → Happens m x s t → Kinds m s t
 kinds m (bag.Private b seen) s t h = Stepping b seen (record {
   may = h.0;
   is = ap (λ (r : BagState). r.threads) h.2 ∙ ended_threads (own_step m b seen s).op b (with_own_step m b seen s);
@@ -95,7 +95,7 @@ grows_same t u e = let a = ap (λ (x : Thread). x.steps) e in let b = ap (λ (x 
 grows_told : (value : ℕ) (t : Thread) → Grows t (told value t)
 grows_told value t = cond_both (is_idle t.state) _ _ (λ (u : Thread). Grows t u) (λ e. record { steps = omega arith; sends = λ l. omega arith }) (λ e. record { steps = omega arith; sends = λ l. omega arith })
 
-step_grows : (m : Program) (s t : BagState) (a : ℕ) → Kinds m s t → Each m.shape s.threads → Grows (s.threads a) (t.threads a)
+pub step_grows : (m : Program) (s t : BagState) (a : ℕ) → Kinds m s t → Each m.shape s.threads → Grows (s.threads a) (t.threads a)
 step_grows m s t a (Stepping b seen o) each =
     let is = ap (λ (f : ℕ → Thread). f a) o.is in
     elim (cases_eq b a) [
@@ -105,12 +105,12 @@ step_grows m s t a (Stepping b seen o) each =
 step_grows m s t a (Telling is host) each = subst (λ (x : Thread). Grows (s.threads a) x) (sym (ap (λ (f : ℕ → Thread). f a) is)) (grows_told (answer m.shape s) (s.threads a))
 step_grows m s t a (Staying is host) each = grows_same (s.threads a) (t.threads a) (ap (λ (f : ℕ → Thread). f a) is)
 
-step_host : (m : Program) (s t : BagState) → Kinds m s t → s.host_sends ≤ t.host_sends
+pub step_host : (m : Program) (s t : BagState) → Kinds m s t → s.host_sends ≤ t.host_sends
 step_host m s t (Stepping b seen o) = let e = o.host in omega arith
 step_host m s t (Telling is host) = omega arith
 step_host m s t (Staying is host) = host
 
-each_same : (n : ShapeNumbers) (f g : ℕ → Thread) → ((a : ℕ) → IsTrue (has_thread n a) → f a ≡ g a) → Each n f → Each n g
+pub each_same : (n : ShapeNumbers) (f g : ℕ → Thread) → ((a : ℕ) → IsTrue (has_thread n a) → f a ≡ g a) → Each n f → Each n g
 each_same n f g same each a there = subst (λ (t : Thread). Enough t) (same a there) (each a there)
 
 -- along a run a thread's steps do not become fewer
@@ -129,7 +129,7 @@ run_steps m (x ∷ xs) s end a there run each =
 abbrev Below : ShapeNumbers → List Act → BagState → Type 0
 Below n past s = (a k : ℕ) (d : Dest) → AmongActs (Sent a k d) past → ((a ≡ host_address) × (k < s.host_sends)) ⊎ (IsTrue (has_thread n a) × (k < (s.threads a).sends))
 
-abbrev Few : ShapeNumbers → BagState → Type 0
+abbrev pub Few : ShapeNumbers → BagState → Type 0
 Few n s = (a : ℕ) → IsTrue (has_thread n a) → (s.threads a).steps < 2 ^ 32
 
 below_later : (m : Program) (past : List Act) (s t : BagState) → Kinds m s t → Each m.shape s.threads → Few m.shape t → Below m.shape past s → Below m.shape past t
@@ -138,7 +138,7 @@ below_later m past s t h each few below a k d i = elim (below a k d i) [
   | inr e ↦ (let g = (step_grows m s t a h each).sends (few a e.0) in let l = e.1 in inr (e.0, omega arith))
 ]
 
-host_no_thread : {A : Type 0} (n : ShapeNumbers) (a : ℕ) → IsTrue (has_thread n a) → a ≡ host_address → A
+pub host_no_thread : {A : Type 0} (n : ShapeNumbers) (a : ℕ) → IsTrue (has_thread n a) → a ≡ host_address → A
 host_no_thread n a h e = let low : a < 16384 = grind (arith, nat_tests) in absurd (omega arith)
 
 same_number : (a b k l : ℕ) (d e : Dest) → Sent a k d ≡ Sent b l e → (a ≡ b) × (k ≡ l)
@@ -247,3 +247,24 @@ run_rises m (x ∷ xs) past s end run each few below =
     let few_now : Few m.shape run.1 = λ a there. let l = run_steps m xs run.1 end a there run.4 behind in let g = few a there in omega arith in
     (step_rises m past (acts_in m run.1 xs end run.4) x run.0 run.1 run.3 before few_now (same_below m.shape past s run.0 run.2.host_sends run.2.threads below)).join
     (λ now b. run_rises m xs now run.1 end run.4 behind few b)
+
+-- along a run a thread's sends do not become fewer, if its steps stay below 2^32, and neither do those of the host
+pub run_sends : (m : Program) (steps : List BagStep) (s end : BagState) (a : ℕ) → IsTrue (has_thread m.shape a) → BagRun m s steps end → Each m.shape s.threads → Few m.shape end → (s.threads a).sends ≤ (end.threads a).sends
+run_sends m [] s end a there run each few = let e = ap (λ (t : Thread). t.sends) (run.threads a there) in omega arith
+run_sends m (x ∷ xs) s end a there run each few =
+    let before = each_same m.shape s.threads run.0.threads run.2.threads each in
+    let behind = step_enough m x run.0 run.1 run.3 before in
+    let same = ap (λ (t : Thread). t.sends) (run.2.threads a there) in
+    let low = run_steps m xs run.1 end a there run.4 behind in
+    let top = few a there in
+    let one = (step_grows m run.0 run.1 a (kinds m x run.0 run.1 run.3) before).sends (omega arith) in
+    let rest = run_sends m xs run.1 end a there run.4 behind few in
+    omega arith
+
+pub run_host : (m : Program) (steps : List BagStep) (s end : BagState) → BagRun m s steps end → s.host_sends ≤ end.host_sends
+run_host m [] s end run = let e = run.host_sends in omega arith
+run_host m (x ∷ xs) s end run =
+    let same = run.2.host_sends in
+    let one = step_host m run.0 run.1 (kinds m x run.0 run.1 run.3) in
+    let rest = run_host m xs run.1 end run.4 in
+    omega arith

@@ -148,7 +148,7 @@ own_then goal v new t k q is place within queues senders =
     own_now goal (with_now v new) t is
     ∙ ((λ j. stamps goal (senders j) (get_or (queues j) (place j) [])) ∙ ap (stamps goal v.now.senders) (get_or-set_same v.now.pool.queues k q [] within))
 
-own_was : (goal : Dest) (v : TileView) (t : ThreadId) (k : ℕ) → goal ≡ dest.Thread t → place_in_tile v.plan.shape t.0 ≡ k → queue_items goal v ≡ stamps goal v.now.senders (queue_at v.now.pool k)
+pub own_was : (goal : Dest) (v : TileView) (t : ThreadId) (k : ℕ) → goal ≡ dest.Thread t → place_in_tile v.plan.shape t.0 ≡ k → queue_items goal v ≡ stamps goal v.now.senders (queue_at v.now.pool k)
 own_was goal v t k is place = own_now goal v t is ∙ ap (λ j. stamps goal v.now.senders (queue_at v.now.pool j)) place
 
 -- only the queue of the receiver changes
@@ -179,12 +179,12 @@ hands_by s goal mine past w p a k v new slot rest is c queue pending node queues
     (λ other. gone_stays mine (receiver_of goal) (sender_at v slot).origin (sender_at v slot).number (letter_in v k slot).receiver past other) kept
 
 -- a hand finds a first letter
-record HandsFirst (v : TileView) (k : ℕ) : Type 0 where
+pub record HandsFirst (v : TileView) (k : ℕ) : Type 0 where
   pub slot : ℕ
   pub rest : List ℕ
   pub is : queue_at v.now.pool k ≡ slot ∷ rest
 
-hands_first : (v : TileView) (k : ℕ) (q : List ℕ) → queue_at v.now.pool k ≡ q → is_some (first_of q) ≡ true → HandsFirst v k
+pub hands_first : (v : TileView) (k : ℕ) (q : List ℕ) → queue_at v.now.pool k ≡ q → is_some (first_of q) ≡ true → HandsFirst v k
 hands_first v k [] e some = cc some
 hands_first v k (slot ∷ rest) e some = record { slot = slot; rest = rest; is = e }
 

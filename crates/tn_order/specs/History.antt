@@ -7,15 +7,17 @@ use Rattle.tn_base.specs.declared.message.Dest.{Dest}
 use Rattle.tn_base.specs.declared.message.Dest.TheVariants as dest
 use Rattle.tn_base.specs.Address.{place_in_tile}
 use Rattle.tn_rows.specs.Events.{happened}
+use Rattle.tn_rows.specs.Runs.{Walk}
 use Rattle.tn_rows.specs.WorldView.{WorldView}
 use Rattle.tn_tile.specs.Step.{step_at_place, thread_at}
 use Rattle.tn_tile.specs.TileView.{TileView}
 use Rattle.tn_letters.specs.declared.steps.BagStep.{BagStep}
 use Rattle.tn_letters.specs.declared.steps.BagStep.TheVariants as bag
+use Rattle.tn_letters.specs.Law.{IsStart}
 use Rattle.tn_letters.specs.Letters.{host_address}
 use Rattle.tn_letters.specs.Steps.{after_step, event_steps, thread_step}
 use Rattle.tn_letters.specs.Tiles.{tile_for}
-use Rattle.tn_order.specs.Acts.{Act, Sent, Handed, Dropped, sent_with}
+use Rattle.tn_order.specs.Acts.{Act, Sent, Handed, Dropped, InOrder, NumbersRise, sent_with}
 
 -- what a step of the bag machine does, but for the send of a thread
 abbrev pub step_ends : BagStep → List Act
@@ -72,3 +74,12 @@ receiver_of (dest.Thread t) = t.0
 receiver_of dest.Host = host_address
 receiver_of (dest.Mask tile mask) = host_address
 receiver_of (dest.Key key) = host_address
+
+-- whatever events happen to a machine from its start: each origin's sends have rising numbers; and where a letter of a send without a key
+-- is handed, the letter of each earlier send without a key of that origin to that receiver was handed or dropped before
+pub record ComesInOrder (start : WorldView) (history : List Event) : Type 0 where
+  pub numbers : NumbersRise [] (history_acts start history)
+  pub order : InOrder [] (history_acts start history)
+
+abbrev pub EveryHistoryIsInOrder : Type 0
+EveryHistoryIsInOrder = (start end : WorldView) (history : List Event) → IsStart start → Walk start history end → ComesInOrder start history

@@ -4,6 +4,7 @@ ghost use Rattle.std.specs.Prelude.{ℕ};
 ghost use Rattle.tn_base.specs.declared.message.Dest.{Dest};
 ghost use Rattle.tn_order.specs.Acts.{EveryRunNumbersRise};
 ghost use Rattle.tn_order.specs.Each.{EachEventKeeps};
+ghost use Rattle.tn_order.specs.History.{EveryHistoryIsInOrder};
 ghost use Rattle.tn_order.specs.Law.{EachChangeKeeps, EarlierIsGone};
 ghost use Rattle.tn_order.specs.Moving.{EachMovingKeeps};
 ghost use Rattle.tn_order.specs.Net.{IsNet};
@@ -49,4 +50,11 @@ pub fn law_moving()
 /// were sent before.
 pub fn law_each()
     ensures { EachEventKeeps }
+{}
+
+/// Whatever events happen to a machine from its start, unkeyed letters of one sender reach a receiver in their order: where a letter of a
+/// send without a key is handed, the letter of each earlier send without a key of that origin to that receiver was handed or dropped
+/// before. The earlier sends of an origin are those with smaller numbers.
+pub fn law_order()
+    ensures { EveryHistoryIsInOrder }
 {}
