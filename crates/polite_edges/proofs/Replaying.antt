@@ -32,16 +32,16 @@ pub record Agrees (n : ShapeNumbers) (s t : BagState) : Type 0 where
 pub agrees_refl : (n : ShapeNumbers) (s : BagState) → Agrees n s s
 agrees_refl n s = record { threads = λ a h. refl; held = λ a h. refl }
 
-then : (n : ShapeNumbers) (s t u : BagState) → Agrees n s t → Agrees n t u → Agrees n s u
+pub then : (n : ShapeNumbers) (s t u : BagState) → Agrees n s t → Agrees n t u → Agrees n s u
 then n s t u x y = record { threads = λ a h. x.threads a h ∙ y.threads a h; held = λ a h. x.held a h ∙ y.held a h }
 
-of_same : (n : ShapeNumbers) (s t : BagState) → Same n s t → Agrees n s t
+pub of_same : (n : ShapeNumbers) (s t : BagState) → Same n s t → Agrees n s t
 of_same n s t x = record { threads = λ a h. x.threads a h; held = λ a h i slot. x.held a slot h i }
 
 of_equal : (n : ShapeNumbers) (s t : BagState) → s.threads ≡ t.threads → s.held ≡ t.held → Agrees n s t
 of_equal n s t x y = record { threads = λ a h. ap (λ (f : ℕ → Thread). f a) x; held = λ a h. ap (λ (f : ℕ → ℕ → Option Letter). f a) y }
 
-own_same : (m : Program) (a : ℕ) (seen : Seen) (s t : BagState) → Agrees m.shape s t → has_thread m.shape a ≡ true → own_step m a seen s ≡ own_step m a seen t
+pub own_same : (m : Program) (a : ℕ) (seen : Seen) (s t : BagState) → Agrees m.shape s t → has_thread m.shape a ≡ true → own_step m a seen s ≡ own_step m a seen t
 own_same m a seen s t x has = λ i. next_step (m.code a) (sight_with seen (x.held a has i)) (x.threads a has i)
 
 deed_same : (m : Program) (a : ℕ) (seen : Seen) (s t : BagState) → Agrees m.shape s t → has_thread m.shape a ≡ true → thread_deed m a seen s ≡ thread_deed m a seen t
@@ -64,7 +64,7 @@ answer_same n s t o x =
 
 -- ---- a step keeps agreement
 
-put_agrees : {A : Type 0} (f h : ℕ → A) (a b : ℕ) (x y : A) → x ≡ y → f b ≡ h b → put f a x b ≡ put h a y b
+pub put_agrees : {A : Type 0} (f h : ℕ → A) (a b : ℕ) (x y : A) → x ≡ y → f b ≡ h b → put f a x b ≡ put h a y b
 put_agrees f h a b x y e i = ap (λ z. put f a z b) e ∙ ap (λ z. cond (b == a) y z) i
 
 own_agrees : (m : Program) (a : ℕ) (seen : Seen) (s t : BagState) → Agrees m.shape s t → has_thread m.shape a ≡ true → Agrees m.shape (with_own_step m a seen s) (with_own_step m a seen t)
@@ -93,7 +93,7 @@ told_agrees n s t o x = record {
 }
 
 -- a step is what it moves, but for the flight
-step_moves : (m : Program) (step : BagStep) (s new : BagState) → Happens m step s new → Agrees m.shape (moved m step s) new
+pub step_moves : (m : Program) (step : BagStep) (s new : BagState) → Happens m step s new → Agrees m.shape (moved m step s) new
 step_moves m (bag.Private a seen) s new h = of_equal m.shape _ new (sym (ap (λ (x : BagState). x.threads) h.2)) (sym (ap (λ (x : BagState). x.held) h.2))
 step_moves m (bag.Send a seen) s new h = sent_moves (own_step m a seen s).op h.1 where
   sent_moves : (o : Op) → sent_by m a (s.threads a).sends o (with_own_step m a seen s) ≡ Some new → Agrees m.shape (with_own_step m a seen s) new
@@ -115,7 +115,7 @@ step_moves m (bag.HostHand l) s new h = of_equal m.shape _ new (sym (ap (λ (x :
 step_moves m (bag.Discard l) s new h = of_equal m.shape _ new (sym (ap (λ (x : BagState). x.threads) h.4)) (sym (ap (λ (x : BagState). x.held) h.4))
 
 -- what steps move agrees where the states before them do
-moved_agrees : (m : Program) (step : BagStep) (x s new : BagState) → Listed m.shape → Happens m step s new → Agrees m.shape x s → Agrees m.shape (moved m step x) (moved m step s)
+pub moved_agrees : (m : Program) (step : BagStep) (x s new : BagState) → Listed m.shape → Happens m step s new → Agrees m.shape x s → Agrees m.shape (moved m step x) (moved m step s)
 moved_agrees m (bag.Private a seen) x s new o h e =
     let one = ended_agrees m.shape (own_step m a seen x).op a (with_own_step m a seen x) (with_own_step m a seen s) (own_agrees m a seen x s e h.0.there) in
     subst (λ q. Agrees m.shape (ended_by (own_step m a seen x).op a (with_own_step m a seen x)) (ended_by q a (with_own_step m a seen s))) (ap (λ (r : Stepped). r.op) (own_same m a seen x s e h.0.there)) one

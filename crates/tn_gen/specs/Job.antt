@@ -1,5 +1,5 @@
 -- The graph job of a start and a number of vertices.
-use Rattle.std.specs.Prelude.{ℕ, ◌+◌, ◌*◌, ◌/◌, ◌%◌, zero, suc, List, [], ◌∷◌, ◌++◌, codes, decimal}
+use Rattle.std.specs.Prelude.{ℕ, ◌≤◌, ◌+◌, ◌*◌, ◌/◌, ◌%◌, zero, suc, List, [], ◌∷◌, ◌++◌, codes, decimal, length}
 use Rattle.tn_gen.specs.Drawn.{drawn}
 use Rattle.tn_gen.specs.Head.{head}
 
@@ -24,3 +24,7 @@ edges_text count used (word ∷ words) = edge_text count (used / 4) word ++ edge
 -- the job of this start with so many vertices
 abbrev pub gen_text : ℕ → ℕ → List ℕ
 gen_text start count = head ++ vertices_text 0 count ++ edges_text count 0 (drawn start (4 * count)) ++ codes "end\n"
+
+-- the job of 1 to 4,096 vertices has at most as many bytes as an input of the program
+abbrev pub DrawnJobsAreShort : Type 0
+DrawnJobsAreShort = (start count : ℕ) → 1 ≤ count → count ≤ 4096 → length (gen_text start count) ≤ 16777216

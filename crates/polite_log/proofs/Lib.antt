@@ -1,0 +1,2 @@
+pub mod HistoryDeeds
+pub mod TileDeeds

@@ -1,0 +1,138 @@
+//! Figures of a run.
+
+ghost use Rattle.std.specs.Prelude.{◌≡◌, ◌++◌, IfOk, OnOk, count_by};
+ghost use Rattle.tn_letters.specs.Tiles.{host_on};
+ghost use Rattle.tn_rows.specs.Runs.{Run};
+ghost use Rattle.tn_rows.specs.WorldView.{WorldView};
+ghost use Rattle.polite_log.specs.Summary.{figure_text, is_announce, is_hand, letters_in, second_word, summary_text, word_sum};
+
+use std::alloc::{AllocError, Global};
+use tn_bag::spell::bag_of;
+use tn_base::bytes::Bytes;
+use tn_base::event::Event;
+use tn_base::message::Letter;
+use tn_letters::steps::BagStep;
+use tn_link::link::Link;
+use tn_world::world::World;
+
+/// The figures of a run of a graph job.
+#[derive(Clone, Copy, PartialEq, Eq, Debug)]
+pub struct Summary {
+    /// How many vertices the graph has.
+    pub vertices: u32,
+    /// How many edges the graph has.
+    pub edges: u32,
+    /// How often the machine's rest was announced.
+    pub announcements: usize,
+    /// How often a recv handler was called with a letter.
+    pub received: usize,
+    /// How many letters were handed to threads.
+    pub letters: usize,
+    /// The sum of the second words of the letters that the host took, modulo 2 to the 32nd.
+    pub sum: u32,
+}
+
+/// Whether an event announces the machine's rest.
+fn is_announce(event: &Event) -> bool
+    ensures { result ≡ is_announce event.now }
+{
+    matches!(event, Event::Announce)
+}
+
+/// How many announcements are among events.
+pub fn announcements(history: &[Event]) -> usize
+    ensures { result ≡ count_by is_announce history.now }
+{
+    history.iter().filter(|event| is_announce(event)).count()
+}
+
+/// Whether a step hands a letter to a thread.
+fn is_hand(step: &BagStep) -> bool
+    ensures { result ≡ is_hand step.now }
+{
+    match step {
+        BagStep::Hand { .. } => true,
+        BagStep::Private { .. }
+        | BagStep::Send { .. }
+        | BagStep::Free { .. }
+        | BagStep::Idle { .. }
+        | BagStep::Announce
+        | BagStep::HostSend { .. }
+        | BagStep::HostHand { .. }
+        | BagStep::Discard { .. } => false,
+    }
+}
+
+/// How many of some steps hand a letter to a thread.
+fn hands(steps: &[BagStep]) -> usize
+    ensures { result ≡ count_by is_hand steps.now }
+{
+    steps.iter().filter(|step| is_hand(step)).count()
+}
+
+/// How many letters were handed to threads in a run. The run is made again on a copy of the start.
+pub fn letters<L: Link>(
+    alloc: Global,
+    start: &World<L>,
+    history: &[Event],
+) -> Result<usize, AllocError>
+    requires { (end : WorldView) × Run start.now history.now end }
+    ensures { IfOk result (λ n. n ≡ letters_in start.now history.now) }
+{
+    let steps = bag_of(alloc, start, history)?;
+    Ok(hands(&steps))
+}
+
+/// The second word of a message, its least byte first.
+fn second_word(bytes: &Bytes) -> u32
+    ensures { result ≡ second_word bytes.now }
+{
+    u32::from(bytes.byte(4))
+        + 256 * u32::from(bytes.byte(5))
+        + 65536 * u32::from(bytes.byte(6))
+        + 16777216 * u32::from(bytes.byte(7))
+}
+
+/// The sum of the second words of letters, modulo 2 to the 32nd.
+fn word_sum(letters: &[Letter]) -> u32
+    ensures { result ≡ word_sum letters.now }
+{
+    let mut sum: u32 = 0;
+    for letter in letters {
+        sum = sum.wrapping_add(second_word(&letter.bytes));
+    }
+    sum
+}
+
+/// The sum of the second words of the letters that the host of a machine took, modulo 2 to the 32nd. It is 0 if no host is in its place.
+pub fn host_sum<L: Link>(world: &World<L>) -> u32
+    ensures { result ≡ word_sum (host_on world.now).got }
+{
+    match world.parts().first() {
+        Some(part) => match part.as_host() {
+            Some(host) => word_sum(host.got()),
+            None => 0,
+        },
+        None => 0,
+    }
+}
+
+/// Appends the six lines of a summary, each a name and a decimal number.
+pub fn push_summary(alloc: Global, text: &mut Vec<u8>, summary: &Summary) -> Result<(), AllocError>
+    ensures { OnOk result (text.new.items ≡ text.old.items ++ summary_text summary.now) }
+{
+    push_figure(alloc, text, "vertices", summary.vertices as u64)?;
+    push_figure(alloc, text, "edges", summary.edges as u64)?;
+    push_figure(alloc, text, "announcements", summary.announcements as u64)?;
+    push_figure(alloc, text, "received", summary.received as u64)?;
+    push_figure(alloc, text, "letters", summary.letters as u64)?;
+    push_figure(alloc, text, "sum", summary.sum as u64)
+}
+
+/// Appends a line: a name and a decimal number.
+fn push_figure(alloc: Global, text: &mut Vec<u8>, name: &str, number: u64) -> Result<(), AllocError>
+    ensures { OnOk result (text.new.items ≡ text.old.items ++ figure_text name.now number) }
+{
+    let line = format!(in alloc; "{name} {number}\n")?;
+    text.extend_from_slice(line.as_bytes())
+}
