@@ -11,7 +11,6 @@ use Rattle.tn_quiet.proofs.Runs.{event_quiet}
 use Rattle.tn_rows.specs.Events.{happened}
 use Rattle.tn_rows.specs.PartView.{PartView, TileV, RouterV, LinkV, HostV, DetectorV, AbsentV}
 use Rattle.tn_rows.specs.Runs.{Walk}
-use Rattle.tn_rows.specs.Visited.{released_part}
 use Rattle.tn_rows.specs.WorldView.{WorldView}
 use Rattle.tn_thread.specs.declared.thread.Thread.{Thread}
 use Rattle.tn_thread.specs.Step.{Stepped, is_idle}

@@ -39,7 +39,6 @@ use Rattle.tn_rows.proofs.HostLinks.{link_from_host, link_to_host}
 use Rattle.tn_rows.specs.Events.{after, carried, crossing_of, happened, meets, with_part}
 use Rattle.tn_rows.specs.PartView.{PartView, TileV, RouterV, LinkV, HostV, DetectorV, AbsentV}
 use Rattle.tn_rows.specs.Places.{detector_part, part_of, two_if}
-use Rattle.tn_rows.specs.Visited.{going_part, released_part, whitened_part}
 use Rattle.tn_rows.specs.WorldView.{WorldView}
 use Rattle.tn_rows.proofs.Meeting.{mapped}
 use Rattle.tn_stamp.specs.declared.entry.Crossing.{Crossing}
