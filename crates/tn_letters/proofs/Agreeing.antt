@@ -62,7 +62,7 @@ all_same p q f k (suc len) e =
     let rest = all_same p q f (k + 1) len (λ i less. e i (omega arith)) in
     ap (λ b. b && list_all p (map f (range_with_len (k + 1) len))) here ∙ ap (λ b. q (f k) && b) rest
 
-answer_same : (n : ShapeNumbers) (s t : BagState) → Listed n → Agrees n s t → answer n s ≡ answer n t
+pub answer_same : (n : ShapeNumbers) (s t : BagState) → Listed n → Agrees n s t → answer n s ≡ answer n t
 answer_same n s t o x =
     let e = all_same (λ a. votes_for (s.threads a).state) (λ a. votes_for (t.threads a).state) (thread_at n) 0 (thread_count n) (λ i less. ap (λ (u : Thread). votes_for u.state) (x.threads (thread_at n i) (o.there i (omega arith)))) in
     ap (λ b. let v : ℕ = cond b 2 1 in v) e
