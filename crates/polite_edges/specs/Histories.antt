@@ -1,12 +1,11 @@
 -- The deeds of the histories of a machine, and the law on them.
-use Rattle.std.specs.Prelude.{List, [], ◌∷◌, unwrap_or}
+use Rattle.std.specs.Prelude.{List, [], ◌∷◌}
 use Rattle.tn_base.specs.declared.event.Event.{Event}
 use Rattle.tn_rows.specs.Runs.{Run}
 use Rattle.tn_rows.specs.WorldView.{WorldView}
 use Rattle.tn_letters.specs.declared.steps.BagStep.{BagStep}
-use Rattle.tn_letters.specs.declared.steps.BagStep.TheVariants as bag
 use Rattle.tn_letters.specs.Law.{IsStart}
-use Rattle.tn_letters.specs.Machine.{announced, ended_by, freed, handed, own_step, with_own_step}
+pub use Rattle.tn_letters.specs.Moved.{moved}
 use Rattle.tn_letters.specs.Standing.{bag_at}
 use Rattle.tn_letters.specs.State.{BagState, Program}
 use Rattle.tn_letters.specs.Steps.{bag_of}
@@ -15,19 +14,6 @@ use Rattle.polite_edges.specs.Deeds.{Deed, Lawful, added}
 use Rattle.polite_edges.specs.Layout.{AllRouted, IsPlaced, Layout}
 use Rattle.polite_edges.specs.Runs.{IsGraphStart, deed_at}
 use Rattle.polite_edges.specs.VertexLog.{EdgesApart, EvenAtRest, LogItem, OnceAtRest, vertex_log}
-
--- the threads, and the letters that they hold, after a step of the bag machine. A deed is read from nothing else, so the letters in
--- flight stay as they are
-abbrev pub moved : Program → BagStep → BagState → BagState
-moved m (bag.Private a seen) s = ended_by (own_step m a seen s).op a (with_own_step m a seen s)
-moved m (bag.Send a seen) s = with_own_step m a seen s
-moved m (bag.Hand a seen l) s = handed a (unwrap_or seen.first 0) l s.flight (with_own_step m a seen s)
-moved m (bag.Free a seen slot) s = freed a slot (with_own_step m a seen s)
-moved m (bag.Idle a seen vote) s = with_own_step m a seen s
-moved m bag.Announce s = announced m.shape s
-moved m (bag.HostSend l) s = s
-moved m (bag.HostHand l) s = s
-moved m (bag.Discard l) s = s
 
 -- the deeds of steps from a state, over the deeds before them
 abbrev pub replayed : List Deed → Program → BagState → List BagStep → List Deed

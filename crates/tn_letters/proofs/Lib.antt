@@ -1,6 +1,8 @@
+pub mod Agreeing
 pub mod Announced
 pub mod Answering
 pub mod Arrives
+pub mod AtThread
 pub mod Bare
 pub mod Becomes
 pub mod Calm

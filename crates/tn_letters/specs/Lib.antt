@@ -3,6 +3,7 @@ pub mod Conserved
 pub mod Law
 pub mod Letters
 pub mod Machine
+pub mod Moved
 pub mod NextStep
 pub mod Settled
 pub mod SlotLaw

@@ -16,6 +16,7 @@ pub mod Passing
 pub mod Rises
 pub mod Rising
 pub mod Routing
+pub mod RunActs
 pub mod Sending
 pub mod Sends
 pub mod SpotNet

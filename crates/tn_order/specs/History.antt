@@ -1,5 +1,5 @@
 -- What the events of a history send, hand and drop, in their order.
-use Rattle.std.specs.Prelude.{ℕ, zero, suc, ◌==◌, ◌&&◌, Bool, List, [], ◌∷◌, ◌++◌, option_map, unwrap_or, if◌then◌else◌}
+use Rattle.std.specs.Prelude.{ℕ, zero, suc, ◌≡◌, ◌==◌, ◌&&◌, Bool, List, [], ◌∷◌, ◌++◌, option_map, unwrap_or, if◌then◌else◌}
 use Rattle.std.specs.List.{flat_map}
 use Rattle.tn_base.specs.declared.event.Event.{Event}
 use Rattle.tn_base.specs.declared.event.Event.TheVariants as event
@@ -7,17 +7,17 @@ use Rattle.tn_base.specs.declared.message.Dest.{Dest}
 use Rattle.tn_base.specs.declared.message.Dest.TheVariants as dest
 use Rattle.tn_base.specs.Address.{place_in_tile}
 use Rattle.tn_rows.specs.Events.{happened}
-use Rattle.tn_rows.specs.Runs.{Walk}
+use Rattle.tn_rows.specs.Runs.{Run, Walk}
 use Rattle.tn_rows.specs.WorldView.{WorldView}
 use Rattle.tn_tile.specs.Step.{step_at_place, thread_at}
 use Rattle.tn_tile.specs.TileView.{TileView}
 use Rattle.tn_letters.specs.declared.steps.BagStep.{BagStep}
 use Rattle.tn_letters.specs.declared.steps.BagStep.TheVariants as bag
-use Rattle.tn_letters.specs.Law.{IsStart}
+use Rattle.tn_letters.specs.Law.{IsBagRun, IsStart}
 use Rattle.tn_letters.specs.Letters.{host_address}
 use Rattle.tn_letters.specs.Steps.{after_step, event_steps, thread_step}
 use Rattle.tn_letters.specs.Tiles.{tile_for}
-use Rattle.tn_order.specs.Acts.{Act, Sent, Handed, Dropped, InOrder, NumbersRise, sent_with}
+use Rattle.tn_order.specs.Acts.{Act, Sent, Handed, Dropped, InOrder, NumbersRise, acts_of_run, sent_with}
 
 -- what a step of the bag machine does, but for the send of a thread
 abbrev pub step_ends : BagStep → List Act
@@ -83,3 +83,11 @@ pub record ComesInOrder (start : WorldView) (history : List Event) : Type 0 wher
 
 abbrev pub EveryHistoryIsInOrder : Type 0
 EveryHistoryIsInOrder = (start end : WorldView) (history : List Event) → IsStart start → Walk start history end → ComesInOrder start history
+
+-- in each run of a machine from its start, what the steps of the bag machine do is what the events of the history do
+abbrev pub EveryRunActsAsItsHistory : Type 0
+EveryRunActsAsItsHistory = (start end : WorldView) (history : List Event) (b : IsBagRun start history end) → IsStart start → Run start history end → acts_of_run start history end b ≡ history_acts start history
+
+-- so the letters of the steps come in their order
+abbrev pub EveryRunIsInOrder : Type 0
+EveryRunIsInOrder = (start end : WorldView) (history : List Event) (b : IsBagRun start history end) → IsStart start → Run start history end → InOrder [] (acts_of_run start history end b)

@@ -4,7 +4,7 @@ ghost use Rattle.std.specs.Prelude.{ℕ};
 ghost use Rattle.tn_base.specs.declared.message.Dest.{Dest};
 ghost use Rattle.tn_order.specs.Acts.{EveryRunNumbersRise};
 ghost use Rattle.tn_order.specs.Each.{EachEventKeeps};
-ghost use Rattle.tn_order.specs.History.{EveryHistoryIsInOrder};
+ghost use Rattle.tn_order.specs.History.{EveryHistoryIsInOrder, EveryRunActsAsItsHistory, EveryRunIsInOrder};
 ghost use Rattle.tn_order.specs.Law.{EachChangeKeeps, EarlierIsGone};
 ghost use Rattle.tn_order.specs.Moving.{EachMovingKeeps};
 ghost use Rattle.tn_order.specs.Net.{IsNet};
@@ -54,7 +54,10 @@ pub fn law_each()
 
 /// Whatever events happen to a machine from its start, unkeyed letters of one sender reach a receiver in their order: where a letter of a
 /// send without a key is handed, the letter of each earlier send without a key of that origin to that receiver was handed or dropped
-/// before. The earlier sends of an origin are those with smaller numbers.
+/// before. The earlier sends of an origin are those with smaller numbers. In each run, the steps of the bag machine send, hand and drop
+/// what the events of the history do, in the same sequence; so the letters of these steps are in order too.
 pub fn law_order()
-    ensures { EveryHistoryIsInOrder }
+    ensures histories { EveryHistoryIsInOrder }
+    ensures acts { EveryRunActsAsItsHistory }
+    ensures runs { EveryRunIsInOrder }
 {}
