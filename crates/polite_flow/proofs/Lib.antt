@@ -10,3 +10,4 @@ pub mod Routed
 pub mod Routers
 pub mod Steps
 pub mod Tiles
+pub mod World

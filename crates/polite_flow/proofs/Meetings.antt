@@ -49,19 +49,19 @@ all_append P [] ys a b = b
 all_append P (x ∷ xs) ys a b = (a.0, all_append P xs ys a.1 b)
 
 -- a link after its row, whose packets have P
-record LinkNow (P : Packet → Type 0) (high : PartView) : Type 0 where
+pub record LinkNow (P : Packet → Type 0) (high : PartView) : Type 0 where
   pub link : LinkView
   pub is : high ≡ LinkV link
   pub fits : AllByRecursion P link.packets
 
-some_is : {X : Type 0} (x y : X) → Some x ≡ Some y → x ≡ y
+pub some_is : {X : Type 0} (x y : X) → Some x ≡ Some y → x ≡ y
 some_is x y e = cc e
 
 put_fits : (P : Packet → Type 0) (k : Packet) (x : LinkView) (room : Bool) (high : PartView) → P k → AllByRecursion P x.packets → option_map LinkV (cond room (Some (record { packets = x.packets ++ k ∷ []; capacity = x.capacity })) None) ≡ Some high → LinkNow P high
 put_fits P k x true high new all h = record { link = record { packets = x.packets ++ k ∷ []; capacity = x.capacity }; is = sym (some_is _ high h); fits = all_append P x.packets (k ∷ []) all (new, tt) }
 put_fits P k x false high new all h = cc h
 
-took_fits : (P : Packet → Type 0) (capacity : ℕ) (packets : List Packet) (same : Bool) (high : PartView) → AllByRecursion P packets → option_map LinkV (cond same (rest_in capacity packets) None) ≡ Some high → LinkNow P high
+pub took_fits : (P : Packet → Type 0) (capacity : ℕ) (packets : List Packet) (same : Bool) (high : PartView) → AllByRecursion P packets → option_map LinkV (cond same (rest_in capacity packets) None) ≡ Some high → LinkNow P high
 took_fits P capacity [] true high all h = cc h
 took_fits P capacity (k ∷ ks) true high all h = record { link = record { packets = ks; capacity = capacity }; is = sym (some_is _ high h); fits = all.1 }
 took_fits P capacity packets false high all h = cc h

@@ -8,3 +8,4 @@ pub mod Places
 pub mod Ranks
 pub mod Routers
 pub mod Tiles
+pub mod World

@@ -11,6 +11,7 @@ ghost use Rattle.polite_flow.specs.Machine.{LinksLeadOn};
 ghost use Rattle.polite_flow.specs.Meetings.{RoutersArrive, RoutersDepart, TilesArrive, TilesDepart};
 ghost use Rattle.polite_flow.specs.Routers.{RoutersGiveWays, RoutersKeepWays};
 ghost use Rattle.polite_flow.specs.Tiles.{TilesGiveWays, TilesKeepWays};
+ghost use Rattle.polite_flow.specs.World.{EventsKeepWays};
 ghost use Rattle.polite_flow.specs.Law.{AreRoutes, EachChangeKeepsWays, NoKeyIsBad, RanksFall, SomePacketIsFree, StraightKeysFit};
 
 use graph_text::graph::Graph;
@@ -73,4 +74,10 @@ pub fn law_meetings()
 /// At the start of a machine all packets of its routers, tiles and links are on their way, since there are none.
 pub fn law_fresh()
     ensures { FreshPartsAreOnWay }
+{}
+
+/// An event of a whole machine keeps all its packets on their way, if the event is on one part, a visit of the detector or what the host
+/// takes. A turn does so if what the turn leaves to be sent is on its way. The law says nothing of departures and arrivals.
+pub fn law_events()
+    ensures { EventsKeepWays }
 {}
