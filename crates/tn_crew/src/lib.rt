@@ -10,5 +10,6 @@ pub mod making;
 mod note_tests;
 pub mod notes;
 pub mod signals;
+pub mod team;
 pub mod work;
 pub mod worker;
