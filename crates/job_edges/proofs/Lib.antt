@@ -1,0 +1,6 @@
+mod Begins
+mod Graphs
+mod Locals
+mod Pins
+mod Places
+mod Routing

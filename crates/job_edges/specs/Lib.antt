@@ -1,0 +1,2 @@
+pub mod JobLayout
+pub mod Laws
