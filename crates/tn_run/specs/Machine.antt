@@ -2,7 +2,10 @@
 use Rattle.std.specs.Prelude.{◌≡◌, ℕ, Bool, true, List, [], ◌++◌, if◌then◌else◌, None, Option, Some, option_and_then}
 use Rattle.std.specs.declared.result.Result.{Result}
 use Rattle.std.specs.declared.result.Result.TheVariants.{Ok, Err}
+use Rattle.job_edges.specs.JobLayout.{layout_of}
+use Rattle.job_edges.specs.Laws.{IsGraphJob, KeepsEdges}
 use Rattle.job_faults.specs.declared.fault.LoadFault.{LoadFault}
+use Rattle.job_faults.specs.declared.map.Mapped.{Mapped}
 use Rattle.job_load.specs.Loaded.{loaded}
 use Rattle.job_faults.specs.Names.{job_said}
 use Rattle.job_text.specs.declared.job.Job.{Job}
@@ -57,7 +60,9 @@ machine_of input = machine_by (job_said (lines_of input))
 -- What a command answers.
 
 -- The kept history is a run of the machine to its end, and of the bag machine that says what messages mean. Each announcement in it comes
--- at rest, and idle threads read what is announced. The status and the report tell how the run ended. If the trace is asked for, the events of the kept history are written before the report.
+-- at rest, and idle threads read what is announced. If the machine is that of a job with a graph, each message came once to each edge at each
+-- announcement, and each handler is called when it is due. The status and the report tell how the run ended. If the trace is asked for, the
+-- events of the kept history are written before the report.
 pub record IsRunOf (trace : Bool) (start : WorldView) (kept : KeptView) (status : Status) (text : List ℕ) : Type 0 where
   pub kept_start : kept.start ≡ Some start
   pub end : WorldView
@@ -65,6 +70,7 @@ pub record IsRunOf (trace : Bool) (start : WorldView) (kept : KeptView) (status 
   pub run : Run start kept.history end
   pub means : IsBagRun start kept.history end
   pub idle : AnswersAtRest start kept.history
+  pub edges : (job : Job) (m : Mapped) → IsGraphJob job m start → KeepsEdges (layout_of job m) start kept.history
   pub ended : IsOutcome kept.history end outcome
   pub status_is : status ≡ status_of outcome
   pub text_is : text ≡ (if trace then events_text kept.history else []) ++ report_text end outcome

@@ -15,6 +15,7 @@ use crate::kept::Kept;
 use crate::refusal::refused;
 use crate::report::push_report;
 use job_bag::laws::law_starts;
+use job_edges::laws::law_graph_edges;
 use job_faults::fault::LoadStop;
 use job_faults::text::job_said;
 use job_load::load::load;
@@ -112,6 +113,7 @@ fn run(alloc: Global, trace: bool, start: World<PlainLink>) -> Result<Answer<Kep
         return Err(AllocError);
     }
     law_flight(&start, &events, &world);
+    law_graph_edges();
     let outcome = outcome_of(&world, &events);
     let text = run_text(alloc, trace, &events, &world, outcome)?;
     let history = History::from(events);
