@@ -1,4 +1,5 @@
 mod Begins
+mod CodeWords
 mod Graphs
 mod Locals
 mod Pins

@@ -1,13 +1,12 @@
 -- What the runs of a graph's job mean.
-use Rattle.std.specs.Prelude.{ℕ, ◌≡◌, ◌≤◌, ◌/◌, List, length, Some}
+use Rattle.std.specs.Prelude.{◌≡◌, List, Some}
 use Rattle.std.specs.declared.result.Result.TheVariants.{Ok}
 use Rattle.tn_base.specs.declared.event.Event.{Event}
 use Rattle.job_faults.specs.declared.map.Mapped.{Mapped}
-use Rattle.job_faults.specs.Assembly.{sections_of}
-use Rattle.job_faults.specs.Code.{code_of}
 use Rattle.job_faults.specs.Mapping.{graph_mapped}
 use Rattle.job_load.specs.Loaded.{loaded}
 use Rattle.job_text.specs.declared.job.Job.{Job}
+use Rattle.job_text.specs.declared.job.TextSection.{TextSection}
 use Rattle.polite_edges.specs.Deeds.{Lawful}
 use Rattle.polite_edges.specs.Histories.{history_deeds}
 use Rattle.polite_edges.specs.Layout.{AllRouted, IsPlaced, Layout}
@@ -19,11 +18,10 @@ use Rattle.tn_rows.specs.Runs.{Run}
 use Rattle.tn_rows.specs.WorldView.{WorldView}
 use Rattle.job_edges.specs.JobLayout.{layout_of}
 
--- the job is accepted with this start, this is its graph with places and routes, and no tile's code reaches the firmware's address
+-- the job is accepted with this start, and this is its graph with places and routes
 pub record IsGraphJob (job : Job) (m : Mapped) (start : WorldView) : Type 0 where
   pub accepted : loaded job ≡ Ok start
   pub graph : graph_mapped job ≡ Some m
-  pub code : (tile : ℕ) → length (code_of (sections_of job) tile) ≤ 0xFFFFFFF0 / 4
 
 -- the machine at its start is that of the graph: each vertex has its device, the key of each pin finds exactly the pin's edges, each edge
 -- is of one pin, and nothing has happened
@@ -38,6 +36,10 @@ pub record KeepsEdges (g : Layout) (start : WorldView) (history : List Event) : 
   pub lawful : Lawful g (history_deeds start history)
   pub even : EvenAtRest g (history_deeds start history)
   pub once : OnceAtRest g (history_deeds start history)
+
+-- if an accepted job has a graph section, it has its graph with places and routes
+abbrev pub EachHasGraph : Type 0
+EachHasGraph = (job : Job) (section : TextSection) (start : WorldView) → loaded job ≡ Ok start → job.graph ≡ Some section → (m : Mapped) × IsGraphJob job m start
 
 abbrev pub EachIsGraphMachine : Type 0
 EachIsGraphMachine = (job : Job) (m : Mapped) (start : WorldView) → IsGraphJob job m start → IsGraphMachine (layout_of job m) start

@@ -1,9 +1,14 @@
 //! Laws of the edges of graph jobs. A law answers nothing: its contract is what it says.
 
-ghost use Rattle.job_edges.specs.Laws.{EachIsGraphMachine, EachKeepsEdges};
+ghost use Rattle.job_edges.specs.Laws.{EachHasGraph, EachIsGraphMachine, EachKeepsEdges};
 
 use job_bag::laws::law_starts;
 use polite_edges::laws::{law_apart, law_histories};
+
+/// Each accepted job with a graph section has its graph with places and routes, so the laws below speak of the job.
+pub fn law_graph_jobs()
+    ensures { EachHasGraph }
+{}
 
 /// The machine of each accepted job with a graph is, at its start, that of the graph: each vertex has its device, what the key of a
 /// pin reaches is exactly the pin's edges, each edge is an edge of one pin, and nothing has happened.

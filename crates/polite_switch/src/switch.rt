@@ -6,7 +6,7 @@ ghost use Rattle.polite_switch.specs.Course.{back_of};
 ghost use Rattle.polite_switch.specs.Device.{AllAligned, AllNamed, edges_for};
 ghost use Rattle.polite_switch.specs.Kept.{CourseFits, FitsAction, Makes, RowHolds, WellKept, no_view};
 ghost use Rattle.polite_switch.specs.Ready.{WellQueued};
-ghost use Rattle.polite_switch.specs.Table.{acts, call_of, calls, dispatched, done, fault_of, fresh_switch, has_none, is_bad_pin, is_stray, next_edge, row_of, running_of, sent_key, served_more, taken, taken_ready};
+ghost use Rattle.polite_switch.specs.Table.{acts, call_of, calls, dispatched, done, fault_of, fresh_switch, has_none, is_bad_pin, is_pin, is_stray, next_edge, row_of, running_of, sent_key, served_more, taken, taken_ready};
 
 use crate::action::{Action, Msg, SwitchView};
 use crate::course::{Call, Course, Due, Entry, Hand, Running};
@@ -97,6 +97,30 @@ impl Switch {
                 in_edge: call.in_edge,
             }),
             None => None,
+        }
+    }
+
+    /// The devices of the thread, in order.
+    pub fn devices(&self) -> &[Device]
+        ensures { result.now ≡ self.now.devices }
+    {
+        &self.devices
+    }
+
+    /// Whether the last dispatch called a handler, and what it returned was not taken yet.
+    pub fn has_entered(&self) -> bool
+        ensures { result ≡ self.now.course.entered }
+    {
+        self.course.entered
+    }
+
+    /// Whether a dispatch that does not trap sends the message of the send handler that has returned.
+    pub fn sends_next(&self, view: &SwitchView) -> bool
+        ensures { result ≡ is_pin (taken view.now self.now).course.due }
+    {
+        match self.course.taken(view).due {
+            Due::Pin => true,
+            Due::Nothing | Due::Host => false,
         }
     }
 

@@ -51,8 +51,8 @@ impl Thread {
         self.obey(command, view)
     }
 
-    /// What the softswitch sees.
-    fn switch_view<V: View>(&self, view: &V) -> SwitchView
+    /// What the thread's softswitch sees.
+    pub fn switch_view<V: View>(&self, view: &V) -> SwitchView
         ensures { result ≡ view_of (V.sight view.now) self.now }
     {
         SwitchView {

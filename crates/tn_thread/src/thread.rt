@@ -132,6 +132,13 @@ impl Thread {
         }
     }
 
+    /// The slot of the letter that the thread has in hand.
+    pub fn hand(&self) -> u32
+        ensures { result ≡ self.now.hand }
+    {
+        self.hand
+    }
+
     /// The softswitch of a thread of a graph job.
     pub fn switch(&self) -> Option<&Switch>
         ensures { option_copied result ≡ self.now.switch }

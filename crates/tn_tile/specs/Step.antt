@@ -1,5 +1,5 @@
 -- One step of a thread of a tile.
-use Rattle.std.specs.Prelude.{ℕ, zero, suc, ◌+◌, ◌/◌, ◌&&◌, Bool, List, [], length, Option, Some, None, is_none, nat_lt, slice_get, slice_index_or, slice_set, replicate, false, if◌then◌else◌}
+use Rattle.std.specs.Prelude.{ℕ, zero, suc, ◌+◌, ◌/◌, ◌&&◌, Bool, List, [], length, Option, Some, None, is_none, nat_lt, option_map, slice_get, slice_index_or, slice_set, replicate, false, if◌then◌else◌}
 use Rattle.rv_isa.specs.declared.instr.Instr.{Instr}
 use Rattle.rv_exec.specs.Exec.{regs_after, step_at}
 use Rattle.tn_base.specs.declared.effect.Effect.{Effect}
@@ -11,13 +11,14 @@ use Rattle.tn_base.specs.declared.message.Dest.{Dest}
 use Rattle.tn_base.specs.declared.message.Packet.{Packet}
 use Rattle.tn_base.specs.declared.op.Op.{Op}
 use Rattle.tn_base.specs.declared.op.Op.TheVariants as op
+use Rattle.polite_switch.specs.declared.action.SwitchView.{SwitchView}
 use Rattle.polite_switch.specs.SwitchModel.{SwitchModel}
 use Rattle.tn_slots.specs.Pool.{freed, held_by, key_for, left, queue_at, taken}
 use Rattle.tn_slots.specs.Queues.{first_of}
 use Rattle.tn_thread.specs.declared.state.ThreadState.{ThreadState}
 use Rattle.tn_thread.specs.declared.state.ThreadState.TheVariants as state
 use Rattle.tn_thread.specs.declared.thread.Thread.{Thread}
-use Rattle.tn_thread.specs.Dispatch.{at_firmware, dispatch}
+use Rattle.tn_thread.specs.Dispatch.{at_firmware, dispatch, view_of}
 use Rattle.tn_thread.specs.Sight.{Sight}
 use Rattle.tn_thread.specs.Step.{Stepped, runnable, turned}
 use Rattle.tn_tile.specs.TileView.{TilePlan, TileState}
@@ -110,6 +111,12 @@ sight_at s k = record {
 
 abbrev pub step_at_place : List (Option Instr) → ℕ → TileState → Stepped
 step_at_place code k s = next_step code (sight_at s k) (thread_at s k)
+
+-- what the softswitch of the thread at a place sees, if the thread's next step is a dispatch
+abbrev pub dispatch_view_at : List (Option Instr) → ℕ → TileState → Option SwitchView
+dispatch_view_at code k s =
+    let t = thread_at s k in
+    option_map (λ _. view_of (sight_at s k) t) (due_by t.state code t)
 
 -- the first thread that trapped stays noted
 abbrev pub noted : ThreadId → Trap → Option (ThreadId × Trap) → Option (ThreadId × Trap)

@@ -61,7 +61,7 @@ fn run_next<V: View>(
 
 /// Whether a dispatch of the thread is due: it is at the firmware's address, and no code stands there.
 #[inline(always)]
-fn is_due(code: &[Option<Instr>], thread: &Thread) -> bool
+pub(crate) fn is_due(code: &[Option<Instr>], thread: &Thread) -> bool
     ensures { result ≡ is_some (due_at (slice_get code.now (thread.now.pc / 4)) thread.now) }
 {
     match code.get((thread.pc() / 4) as usize) {

@@ -3,17 +3,19 @@
 ghost use Rattle.std.specs.Prelude.{◌≡◌, ◌≤◌, ◌<◌, ◌+◌, IfOk, IsTrue, is_some};
 ghost use Rattle.tn_base.specs.Address.{place_in_tile, tile_threads};
 ghost use Rattle.tn_tile.specs.Rows.{can_count, is_here, turn_row};
-ghost use Rattle.tn_tile.specs.Step.{can_step, step_at_place};
+ghost use Rattle.tn_tile.specs.Step.{can_step, dispatch_view_at, step_at_place};
 ghost use Rattle.tn_tile.specs.Turns.{StepsUpTo, StockLasts, TurnIs};
 
-use crate::advance::advance;
+use crate::advance::{advance, is_due};
 use crate::bits::{has_bit, with_if, write_bit};
 use crate::sight::TileSight;
 use crate::tile::Tile;
+use polite_switch::action::SwitchView;
 use std::alloc::AllocError;
 use tn_base::ids::ThreadId;
 use tn_base::op::Op;
 use tn_pages::stock::PageStock;
+use tn_thread::state::ThreadState;
 
 /// What came of a turn.
 #[derive(Clone, Copy, PartialEq, Eq, Debug)]
@@ -95,6 +97,26 @@ impl Tile {
         let mut thread = self.state.threads.get(place).copy()?;
         let ask = advance(self.plan.code(), &mut thread, &sight, &mut stock);
         Ok(thread.op_of(ask))
+    }
+
+    /// What the softswitch of a thread sees if the thread's next step is a dispatch.
+    pub fn dispatch_view(&self, t: ThreadId) -> Option<SwitchView>
+        requires here { IsTrue (is_here self.now.plan t.0) }
+        ensures { result ≡ dispatch_view_at self.now.plan.code (place_in_tile self.now.plan.shape t.0) self.now.now }
+    {
+        let place = self.plan.place(t);
+        let thread = self.state.threads.get(place);
+        let sight = TileSight {
+            pool: &self.state.pool,
+            place,
+            can_send: self.state.pending.is_free(place),
+        };
+        match thread.state() {
+            ThreadState::Run if is_due(self.plan.code(), thread) => {
+                Some(thread.switch_view(&sight))
+            }
+            _ => None,
+        }
     }
 
     /// Whether the thread at a place can make a step.

@@ -71,7 +71,8 @@ impl<L: Link> World<L> {
 
     /// The parts of the machine, in order.
     pub fn into_parts(self) -> Vec<Part<L>>
-        ensures { result.items ≡ self.parts }
+        ensures parts { result.items ≡ self.parts }
+        ensures world { IsWorld self }
     {
         self.parts
     }
