@@ -133,7 +133,7 @@ impl Thread {
     }
 
     /// The slot of the letter that the thread has in hand.
-    pub fn hand(&self) -> u32
+    pub fn hand(&self) -> u16
         ensures { result ≡ self.now.hand }
     {
         self.hand
