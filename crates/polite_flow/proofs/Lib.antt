@@ -1,6 +1,9 @@
+pub mod Arriving
+pub mod Departing
 pub mod Descent
 pub mod Directed
 pub mod Fresh
+pub mod HostStill
 pub mod Keys
 pub mod Links
 pub mod Meetings

@@ -8,4 +8,5 @@ pub mod Places
 pub mod Ranks
 pub mod Routers
 pub mod Tiles
+pub mod Traffic
 pub mod World

@@ -11,6 +11,7 @@ ghost use Rattle.polite_flow.specs.Machine.{LinksLeadOn};
 ghost use Rattle.polite_flow.specs.Meetings.{RoutersArrive, RoutersDepart, TilesArrive, TilesDepart};
 ghost use Rattle.polite_flow.specs.Routers.{RoutersGiveWays, RoutersKeepWays};
 ghost use Rattle.polite_flow.specs.Tiles.{TilesGiveWays, TilesKeepWays};
+ghost use Rattle.polite_flow.specs.Traffic.{ArrivalsKeepWays, DeparturesKeepWays, SuchHostsPutNothing};
 ghost use Rattle.polite_flow.specs.World.{EventsKeepWays};
 ghost use Rattle.polite_flow.specs.Law.{AreRoutes, EachChangeKeepsWays, NoKeyIsBad, RanksFall, SomePacketIsFree, StraightKeysFit};
 
@@ -80,4 +81,12 @@ pub fn law_fresh()
 /// takes. A turn does so if what the turn leaves to be sent is on its way. The law says nothing of departures and arrivals.
 pub fn law_events()
     ensures { EventsKeepWays }
+{}
+
+/// A packet that departs from a part of a whole machine, or arrives at a part, keeps all packets on their way. A host without messages
+/// puts no packet on its link.
+pub fn law_traffic()
+    ensures depart { DeparturesKeepWays }
+    ensures arrive { ArrivalsKeepWays }
+    ensures host { SuchHostsPutNothing }
 {}
