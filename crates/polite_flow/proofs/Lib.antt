@@ -2,6 +2,7 @@ pub mod Arriving
 pub mod Departing
 pub mod Descent
 pub mod Directed
+pub mod Flowing
 pub mod Fresh
 pub mod HostStill
 pub mod Keys
@@ -11,6 +12,7 @@ pub mod Passing
 pub mod Process
 pub mod Routed
 pub mod Routers
+pub mod Starting
 pub mod Steps
 pub mod Tiles
 pub mod World

@@ -1,4 +1,5 @@
 pub mod Flow
+pub mod Flowing
 pub mod Fresh
 pub mod Law
 pub mod Machine

@@ -6,6 +6,7 @@ ghost use Rattle.polite_place.specs.Outs.{outs_of};
 ghost use Rattle.polite_place.specs.Seats.{placed};
 ghost use Rattle.polite_routes.specs.declared.routes.RouteSet.{RouteSet};
 ghost use Rattle.polite_routes.specs.Answer.{routes_of};
+ghost use Rattle.polite_flow.specs.Flowing.{EventsKeepFlowing, StartsAreFlowing, WalksKeepFlowing};
 ghost use Rattle.polite_flow.specs.Fresh.{FreshPartsAreOnWay};
 ghost use Rattle.polite_flow.specs.Machine.{LinksLeadOn};
 ghost use Rattle.polite_flow.specs.Meetings.{RoutersArrive, RoutersDepart, TilesArrive, TilesDepart};
@@ -89,4 +90,12 @@ pub fn law_traffic()
     ensures depart { DeparturesKeepWays }
     ensures arrive { ArrivalsKeepWays }
     ensures host { SuchHostsPutNothing }
+{}
+
+/// At its start a machine with the tables of a graph flows: all its packets are on their way, its routers are ready, and its host has no
+/// message to send. Each event keeps the machine flowing, and so does each walk, if what each turn leaves to be sent is on its way.
+pub fn law_flowing()
+    ensures start { StartsAreFlowing }
+    ensures event { EventsKeepFlowing }
+    ensures walk { WalksKeepFlowing }
 {}
