@@ -2,6 +2,7 @@ pub mod Arriving
 pub mod Departing
 pub mod Descent
 pub mod Directed
+pub mod Dispatches
 pub mod Flowing
 pub mod Fresh
 pub mod HostStill
@@ -12,6 +13,7 @@ pub mod Passing
 pub mod Process
 pub mod Routed
 pub mod Routers
+pub mod Sending
 pub mod Starting
 pub mod Steps
 pub mod Tiles

@@ -8,6 +8,7 @@ pub mod OnWay
 pub mod Places
 pub mod Ranks
 pub mod Routers
+pub mod Sending
 pub mod Tiles
 pub mod Traffic
 pub mod World

@@ -11,6 +11,7 @@ ghost use Rattle.polite_flow.specs.Fresh.{FreshPartsAreOnWay};
 ghost use Rattle.polite_flow.specs.Machine.{LinksLeadOn};
 ghost use Rattle.polite_flow.specs.Meetings.{RoutersArrive, RoutersDepart, TilesArrive, TilesDepart};
 ghost use Rattle.polite_flow.specs.Routers.{RoutersGiveWays, RoutersKeepWays};
+ghost use Rattle.polite_flow.specs.Sending.{EventsKeepSenders, TurnsOfSendersFit, WalksOfSendersFlow};
 ghost use Rattle.polite_flow.specs.Tiles.{TilesGiveWays, TilesKeepWays};
 ghost use Rattle.polite_flow.specs.Traffic.{ArrivalsKeepWays, DeparturesKeepWays, SuchHostsPutNothing};
 ghost use Rattle.polite_flow.specs.World.{EventsKeepWays};
@@ -98,4 +99,12 @@ pub fn law_flowing()
     ensures start { StartsAreFlowing }
     ensures event { EventsKeepFlowing }
     ensures walk { WalksKeepFlowing }
+{}
+
+/// If each thread of a machine has firmware, and each key of its softswitch is of packets on their way, each event leaves the threads such
+/// senders. What their turns leave to be sent is on its way. So along each walk from such a start the machine flows.
+pub fn law_senders()
+    ensures event { EventsKeepSenders }
+    ensures turn { TurnsOfSendersFit }
+    ensures walk { WalksOfSendersFlow }
 {}
