@@ -1,6 +1,11 @@
+pub mod Arriving
+pub mod Departing
 pub mod Descent
 pub mod Directed
+pub mod Dispatches
+pub mod Flowing
 pub mod Fresh
+pub mod HostStill
 pub mod Keys
 pub mod Links
 pub mod Meetings
@@ -8,6 +13,8 @@ pub mod Passing
 pub mod Process
 pub mod Routed
 pub mod Routers
+pub mod Sending
+pub mod Starting
 pub mod Steps
 pub mod Tiles
 pub mod World

@@ -1,4 +1,5 @@
 pub mod Flow
+pub mod Flowing
 pub mod Fresh
 pub mod Law
 pub mod Machine
@@ -7,5 +8,7 @@ pub mod OnWay
 pub mod Places
 pub mod Ranks
 pub mod Routers
+pub mod Sending
 pub mod Tiles
+pub mod Traffic
 pub mod World
