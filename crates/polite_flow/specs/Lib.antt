@@ -1,3 +1,5 @@
+pub mod Able
+pub mod Enabled
 pub mod Flow
 pub mod Fresh
 pub mod Law
@@ -7,5 +9,6 @@ pub mod OnWay
 pub mod Places
 pub mod Ranks
 pub mod Routers
+pub mod Standing
 pub mod Tiles
 pub mod World
