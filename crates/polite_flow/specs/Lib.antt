@@ -1,3 +1,5 @@
+pub mod Able
+pub mod Enabled
 pub mod Flow
 pub mod Flowing
 pub mod Fresh
@@ -9,6 +11,7 @@ pub mod Places
 pub mod Ranks
 pub mod Routers
 pub mod Sending
+pub mod Standing
 pub mod Tiles
 pub mod Traffic
 pub mod World
