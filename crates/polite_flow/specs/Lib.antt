@@ -1,4 +1,7 @@
+pub mod Able
+pub mod Enabled
 pub mod Flow
+pub mod Flowing
 pub mod Fresh
 pub mod Law
 pub mod Machine
@@ -7,5 +10,8 @@ pub mod OnWay
 pub mod Places
 pub mod Ranks
 pub mod Routers
+pub mod Sending
+pub mod Standing
 pub mod Tiles
+pub mod Traffic
 pub mod World
