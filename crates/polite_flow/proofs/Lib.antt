@@ -5,6 +5,7 @@ pub mod Directed
 pub mod Dispatches
 pub mod Flowing
 pub mod Fresh
+pub mod Graphs
 pub mod HostStill
 pub mod Keys
 pub mod Links
