@@ -11,6 +11,7 @@ use Rattle.tn_host.specs.Rows.{host_deed}
 use Rattle.tn_host.specs.Script.{items_behind, past_await}
 use Rattle.tn_keys.specs.Tables.{HasBoard, Table}
 use Rattle.tn_letters.proofs.EventParts.{event_parts}
+use Rattle.tn_letters.specs.Tiles.{host_in}
 use Rattle.tn_node.specs.Deed.{Deed}
 use Rattle.tn_node.specs.Deed as deed
 use Rattle.tn_quiet.proofs.Runs.{kept_at}
@@ -24,9 +25,9 @@ use Rattle.tn_rows.specs.Places.{places}
 use Rattle.tn_rows.specs.WorldView.{WorldView}
 use Rattle.tn_rows.proofs.Meeting.{mapped}
 use Rattle.tn_stamp.specs.declared.entry.Crossing.{Crossing}
+use Rattle.polite_edges.specs.Runs.{IsAwait}
 use Rattle.polite_flow.specs.Flowing.{IsFlowing, TurnFits}
 use Rattle.polite_flow.specs.Law.{HasRoutes}
-use Rattle.polite_flow.specs.Traffic.{IsWait, SendsNothing}
 use Rattle.polite_flow.specs.World.{PartReady, RouterReady, WorldOnWay}
 use Rattle.polite_flow.proofs.Arriving.{arrivals_keep}
 use Rattle.polite_flow.proofs.Departing.{departures_keep}
@@ -58,17 +59,17 @@ ready_after n tables e c AbsentV y r h = cc h
 
 -- ---- the host's script
 
-waits_behind : (script : List ScriptItem) → AllByRecursion IsWait script → AllByRecursion IsWait (items_behind script)
+waits_behind : (script : List ScriptItem) → AllByRecursion IsAwait script → AllByRecursion IsAwait (items_behind script)
 waits_behind [] all = tt
 waits_behind (x ∷ xs) all = all.1
 
-waits_past : (script : List ScriptItem) → AllByRecursion IsWait script → AllByRecursion IsWait (past_await script)
+waits_past : (script : List ScriptItem) → AllByRecursion IsAwait script → AllByRecursion IsAwait (past_await script)
 waits_past [] all = tt
 waits_past (item.Send t bytes ∷ xs) all = all
 waits_past (item.AwaitIdle ∷ xs) all = all.1
 
 abbrev Waits : HostState → Type 0
-Waits s = AllByRecursion IsWait s.script
+Waits s = AllByRecursion IsAwait s.script
 
 waits_if : (there : Bool) (x t : HostState) → Waits x → cond there (Some x) None ≡ Some t → Waits t
 waits_if true x t all h = subst Waits (some_is x t h) all
@@ -93,12 +94,15 @@ host_did_waits : (d : Option Deed) (s t : HostState) → Waits s → host_did s 
 host_did_waits None s t all h = cc h
 host_did_waits (Some d) s t all h = host_waits d s t all h
 
-still_after : (e : Event) (c : Crossing) (x y : PartView) → SendsNothing x → after e c x ≡ Some y → SendsNothing y
-still_after e c (TileV v) y r h = let m = mapped TileV (tile_row e c v) y h in subst SendsNothing m.2 tt
-still_after e c (RouterV v) y r h = let m = mapped RouterV _ y h in subst SendsNothing m.2 tt
-still_after e c (LinkV v) y r h = let m = mapped LinkV (link_row e c v) y h in subst SendsNothing m.2 tt
-still_after e c (HostV s) y r h = let m = mapped HostV (host_did s (plain_deed e c)) y h in subst SendsNothing m.2 (host_did_waits (plain_deed e c) s m.0 r m.1)
-still_after e c (DetectorV v) y r h = let m = mapped DetectorV (detector_row e c v) y h in subst SendsNothing m.2 tt
+abbrev StillHost : PartView → Type 0
+StillHost x = Waits (host_in x)
+
+still_after : (e : Event) (c : Crossing) (x y : PartView) → StillHost x → after e c x ≡ Some y → StillHost y
+still_after e c (TileV v) y r h = let m = mapped TileV (tile_row e c v) y h in subst StillHost m.2 tt
+still_after e c (RouterV v) y r h = let m = mapped RouterV _ y h in subst StillHost m.2 tt
+still_after e c (LinkV v) y r h = let m = mapped LinkV (link_row e c v) y h in subst StillHost m.2 tt
+still_after e c (HostV s) y r h = let m = mapped HostV (host_did s (plain_deed e c)) y h in subst StillHost m.2 (host_did_waits (plain_deed e c) s m.0 r m.1)
+still_after e c (DetectorV v) y r h = let m = mapped DetectorV (detector_row e c v) y h in subst StillHost m.2 tt
 still_after e c AbsentV y r h = cc h
 
 -- ---- each event
@@ -127,13 +131,13 @@ event_flows tables e w new f t h =
     let k = kept_at e w new (places w.shape e) f.world h in
     let same : n ≡ new.shape = sym k.1 in
     let routers = event_parts (λ i a b. PartReady n tables a → PartReady n tables b) (λ i x r. r) e w new (λ c crosses i a b read row r. ready_after n tables e c a b r row) h in
-    let host = event_parts (λ i a b. SendsNothing a → SendsNothing b) (λ i x r. r) e w new (λ c crosses i a b read row r. still_after e c a b r row) h in
+    let host = event_parts (λ i a b. StillHost a → StillHost b) (λ i x r. r) e w new (λ c crosses i a b read row r. still_after e c a b r row) h in
     record {
       world = k.0;
       ready = record {
         routes = subst (λ s. HasRoutes s tables) same f.ready.routes;
         routers = subst (λ s. (p : ℕ) → PartReady s tables (get_or new.parts p AbsentV)) same (λ p. routers p (f.ready.routers p));
       };
-      host = λ p. host p (f.host p);
+      host = host 0 f.host;
       ways = ways_kept tables e w new f t h;
     }

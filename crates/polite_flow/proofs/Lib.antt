@@ -9,6 +9,7 @@ pub mod Dispatches
 pub mod Enabling
 pub mod Flowing
 pub mod Fresh
+pub mod Graphs
 pub mod HostStill
 pub mod Keys
 pub mod Links

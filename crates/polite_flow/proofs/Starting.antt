@@ -25,7 +25,7 @@ use Rattle.polite_flow.proofs.Flowing.{event_flows}
 use Rattle.polite_flow.proofs.Fresh.{fresh_on_way}
 
 -- what holds of each part that is there, and where no part is, holds at every place
-each_place : (P : ℕ → PartView → Type 0) (parts : List PartView) → ((p : ℕ) → P p AbsentV) → ((p : ℕ) → p < length parts → P p (get_or parts p AbsentV)) → (p : ℕ) → P p (get_or parts p AbsentV)
+pub each_place : (P : ℕ → PartView → Type 0) (parts : List PartView) → ((p : ℕ) → P p AbsentV) → ((p : ℕ) → p < length parts → P p (get_or parts p AbsentV)) → (p : ℕ) → P p (get_or parts p AbsentV)
 each_place P parts absent each p = by (slice_get parts p) refl where
   by : (o : Option PartView) → slice_get parts p ≡ o → P p (get_or parts p AbsentV)
   by None e = subst (P p) (sym (ap (λ o. unwrap_or o AbsentV) e) ∙ unwrap_or-slice_get parts p AbsentV) (absent p)

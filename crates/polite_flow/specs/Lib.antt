@@ -3,6 +3,7 @@ pub mod Enabled
 pub mod Flow
 pub mod Flowing
 pub mod Fresh
+pub mod Graphs
 pub mod Law
 pub mod Machine
 pub mod Meetings

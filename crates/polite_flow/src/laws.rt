@@ -8,6 +8,7 @@ ghost use Rattle.polite_routes.specs.declared.routes.RouteSet.{RouteSet};
 ghost use Rattle.polite_routes.specs.Answer.{routes_of};
 ghost use Rattle.polite_flow.specs.Flowing.{EventsKeepFlowing, StartsAreFlowing, WalksKeepFlowing};
 ghost use Rattle.polite_flow.specs.Fresh.{FreshPartsAreOnWay};
+ghost use Rattle.polite_flow.specs.Graphs.{GraphsStartFlowing, WalksOfGraphsFlow};
 ghost use Rattle.polite_flow.specs.Machine.{LinksLeadOn};
 ghost use Rattle.polite_flow.specs.Meetings.{RoutersArrive, RoutersDepart, TilesArrive, TilesDepart};
 ghost use Rattle.polite_flow.specs.Routers.{RoutersGiveWays, RoutersKeepWays};
@@ -107,4 +108,11 @@ pub fn law_senders()
     ensures event { EventsKeepSenders }
     ensures turn { TurnsOfSendersFit }
     ensures walk { WalksOfSendersFlow }
+{}
+
+/// The machine of a graph, at its start, flows, and its threads are senders, if the tables name the four directions alone and packets by
+/// the keys of the threads' pins are on their way. So each walk from that start keeps all packets on their way.
+pub fn law_graphs()
+    ensures start { GraphsStartFlowing }
+    ensures walk { WalksOfGraphsFlow }
 {}
