@@ -41,7 +41,8 @@ use Rattle.tn_letters.proofs.Settling.{bag_is}
 use Rattle.tn_letters.proofs.Simulate.{Place}
 use Rattle.tn_letters.proofs.Starts.{good_start}
 use Rattle.tn_letters.proofs.Walks.{on_read, run_walk}
-use Rattle.polite_edges.specs.Deeds.{Deed, added}
+use Rattle.polite_edges.specs.declared.deed.Deed.{Deed}
+use Rattle.polite_edges.specs.Deeds.{added}
 use Rattle.polite_edges.specs.Histories.{moved, replayed}
 use Rattle.polite_edges.specs.Runs.{deed_at}
 use Rattle.polite_edges.proofs.Replaying.{Agrees, agrees_refl, run_replays, then}

@@ -25,7 +25,8 @@ use Rattle.tn_letters.specs.Tiles.{held_in, letter_in, program_of}
 use Rattle.tn_letters.proofs.Lift.{on_new, with_tile}
 use Rattle.tn_letters.proofs.Simulate.{Place, Reached, read, shown}
 use Rattle.tn_letters.proofs.Threads.{step_reached}
-use Rattle.polite_edges.specs.Deeds.{Deed, added}
+use Rattle.polite_edges.specs.declared.deed.Deed.{Deed}
+use Rattle.polite_edges.specs.Deeds.{added}
 use Rattle.polite_edges.specs.Histories.{moved, replayed}
 use Rattle.polite_edges.specs.Runs.{deed_at, dispatch_deed, thread_deed}
 use Rattle.polite_edges.proofs.Replaying.{Agrees, agrees_refl, moved_agrees, of_same, put_agrees, step_moves, then}

@@ -8,7 +8,8 @@ use Rattle.tn_letters.specs.declared.steps.BagStep.TheVariants as bag
 use Rattle.tn_letters.specs.Steps.{bag_of}
 use Rattle.tn_letters.specs.Tiles.{host_on}
 use Rattle.tn_rows.specs.WorldView.{WorldView}
-use Rattle.polite_edges.specs.Deeds.{Announced, Deed, Finished, Inited, Missed, Received, Sent, Stepped}
+use Rattle.polite_edges.specs.declared.deed.Deed.{Deed}
+use Rattle.polite_edges.specs.declared.deed.Deed.TheVariants.{Announced, Finished, Inited, Missed, Received, Sent, Stepped}
 use Rattle.polite_edges.specs.Histories.{history_deeds}
 use Rattle.polite_log.specs.declared.summary.Summary.{Summary}
 

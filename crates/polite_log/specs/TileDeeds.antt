@@ -16,7 +16,9 @@ use Rattle.tn_letters.specs.Machine.{answer}
 use Rattle.tn_letters.specs.Standing.{bag_at}
 use Rattle.tn_letters.specs.Steps.{after_step}
 use Rattle.tn_letters.specs.Tiles.{held_in}
-use Rattle.polite_edges.specs.Deeds.{Announced, Deed, added}
+use Rattle.polite_edges.specs.declared.deed.Deed.{Deed}
+use Rattle.polite_edges.specs.declared.deed.Deed.TheVariants.{Announced}
+use Rattle.polite_edges.specs.Deeds.{added}
 use Rattle.polite_edges.specs.Histories.{history_deeds}
 use Rattle.polite_edges.specs.Runs.{dispatch_deed}
 
