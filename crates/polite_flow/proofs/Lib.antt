@@ -17,4 +17,6 @@ pub mod RoutedOn
 pub mod Routers
 pub mod Steps
 pub mod Tiles
+pub mod Unjammed
+pub mod Watched
 pub mod World

@@ -1,7 +1,7 @@
 //! Laws of a whole machine of a graph's job: a packet that stands anywhere lets an event be enabled. A law answers nothing: its
 //! contract is what it says.
 
-ghost use Rattle.polite_flow.specs.Enabled.{PendingMoves, RouterLinksMove, RoutersDepartTo, RoutersRoute, SomeEventIsEnabled, TileLinksMove, TilesDepartTo};
+ghost use Rattle.polite_flow.specs.Enabled.{PendingMoves, RouterLinksMove, RoutersDepartTo, RoutersRoute, SomeEventAtEachMoment, SomeEventAtEachPhase, SomeEventIsEnabled, TileLinksMove, TilesDepartTo};
 
 /// Of a machine whose packets are on their way, each kind of place has its event. This event is enabled, unless the next place of the
 /// packet is taken, or the packet is for threads of a tile that has no free slot.
@@ -14,7 +14,15 @@ pub fn law_moves()
     ensures router_links { RouterLinksMove }
 {}
 
-/// If a packet stands anywhere on such a machine, an event is enabled.
+/// If a packet stands anywhere on such a machine, an event is enabled. If the detector's invariant holds of the machine, this is so
+/// also while the detector holds parts.
 pub fn law_enabled()
-    ensures { SomeEventIsEnabled }
+    ensures packet { SomeEventIsEnabled }
+    ensures phases { SomeEventAtEachPhase }
+{}
+
+/// An event is enabled at each moment at which each tile that is not still has a packet or a thread that can make a step, and the host
+/// has no message to send.
+pub fn law_unjammed()
+    ensures { SomeEventAtEachMoment }
 {}
