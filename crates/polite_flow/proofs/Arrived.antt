@@ -33,7 +33,7 @@ use Rattle.tn_tile.specs.Rows.{accepted, passed}
 use Rattle.tn_tile.proofs.Packets.{accept_can}
 use Rattle.tn_ways.specs.Ways.{ComesFrom, LeadsBy}
 use Rattle.tn_ways.proofs.Law.{ways}
-use Rattle.polite_flow.specs.Able.{IsFlowing, NodeAble, PartAble, TileAble}
+use Rattle.polite_flow.specs.Able.{CanFlow, NodeAble, PartAble, TileAble}
 use Rattle.polite_flow.specs.Enabled.{LinkMoves, RouterLinksMove, TileLinksMove}
 use Rattle.polite_flow.specs.Flow.{To}
 use Rattle.polite_flow.specs.Machine.{LeadsOn, comes_to}
@@ -49,7 +49,7 @@ use Rattle.polite_flow.proofs.PartsAt.{HostAt, RouterAt, TileAt, at_place, host_
 
 -- ---- what is known of a link's first packet
 
-pub on_link : {start : Kind} {way : Port} (tables : List Table) (w : WorldView) (x : LinkPacket w start way) → IsFlowing tables w → LinkFits w.shape tables way start x.packet
+pub on_link : {start : Kind} {way : Port} (tables : List Table) (w : WorldView) (x : LinkPacket w start way) → CanFlow tables w → LinkFits w.shape tables way start x.packet
 on_link {start} {way} tables w x g =
     let n : ShapeNumbers = w.shape in
     let all : KindOnWay n tables x.part.0 (kind_of n x.part.0) x.view = at_place (PartOnWay n tables) w x.part.0 (LinkV x.view) g.on_way x.is in
@@ -57,12 +57,12 @@ on_link {start} {way} tables w x g =
     let first = first_fits (LinkFits n tables (link_way n x.part.0) (kind_of n x.from.0)) x.view.packets x.packet on x.there in
     subst (λ c. LinkFits n tables way c x.packet) x.starts (subst (λ q. LinkFits n tables q (kind_of n x.from.0) x.packet) x.by first)
 
-one_of : {start : Kind} {way : Port} (tables : List Table) (w : WorldView) (x : LinkPacket w start way) → IsFlowing tables w → has_packet w.shape x.packet ≡ true
+one_of : {start : Kind} {way : Port} (tables : List Table) (w : WorldView) (x : LinkPacket w start way) → CanFlow tables w → has_packet w.shape x.packet ≡ true
 one_of tables w x g =
     let n : ShapeNumbers = w.shape in
     first_fits (λ k. IsTrue (has_packet n k)) x.view.packets x.packet (at_place (λ _ y. PartAble n y) w x.part.0 (LinkV x.view) g.able x.is) x.there
 
-leads_from_link : {start : Kind} {way : Port} (tables : List Table) (w : WorldView) (x : LinkPacket w start way) → IsFlowing tables w → LeadsOn w.shape x.packet.dest way (link_side w.shape x.part.0) start (kind_of w.shape x.onto.0)
+leads_from_link : {start : Kind} {way : Port} (tables : List Table) (w : WorldView) (x : LinkPacket w start way) → CanFlow tables w → LeadsOn w.shape x.packet.dest way (link_side w.shape x.part.0) start (kind_of w.shape x.onto.0)
 leads_from_link {start} {way} tables w x g =
     let n : ShapeNumbers = w.shape in
     let s = link_side n x.part.0 in
@@ -70,10 +70,10 @@ leads_from_link {start} {way} tables w x g =
     let all : LeadsOn n x.packet.dest (link_way n x.part.0) s (kind_of n x.from.0) k = links_lead n g.ready.routes.limits x.part.0 x.from x.onto x.packet.dest x.joins in
     subst (λ c. LeadsOn n x.packet.dest way s c k) x.starts (subst (λ q. LeadsOn n x.packet.dest q s (kind_of n x.from.0) k) x.by all)
 
-ends_of : {start : Kind} {way : Port} (tables : List Table) (w : WorldView) (x : LinkPacket w start way) → IsFlowing tables w → JoinsVisited w.shape x.part.0 x.from.0 x.onto.0
+ends_of : {start : Kind} {way : Port} (tables : List Table) (w : WorldView) (x : LinkPacket w start way) → CanFlow tables w → JoinsVisited w.shape x.part.0 x.from.0 x.onto.0
 ends_of tables w x g = joins_visited w.shape x.part.0 x.from x.onto g.ready.routes.limits x.joins
 
-onto_there : {start : Kind} {way : Port} (tables : List Table) (w : WorldView) (x : LinkPacket w start way) → IsFlowing tables w → x.onto.0 < part_count w.shape
+onto_there : {start : Kind} {way : Port} (tables : List Table) (w : WorldView) (x : LinkPacket w start way) → CanFlow tables w → x.onto.0 < part_count w.shape
 onto_there tables w x g =
     let ends = ends_of tables w x g in
     let low = ends.onto_visited in
@@ -86,7 +86,7 @@ leads_to_it w x = ap (leads_to x.onto.0) x.joins ∙ eq-eqb x.onto.0 x.onto.0 re
 
 -- ---- at a tile
 
-at_tile : {start : Kind} {way : Port} (tables : List Table) (w : WorldView) (p : Place) (x : LinkPacket w start way) (a : TileId) → IsFlowing tables w → Fits w.shape tables p (Bound x.packet.dest) → kind_of w.shape x.onto.0 ≡ kind.Tile a
+at_tile : {start : Kind} {way : Port} (tables : List Table) (w : WorldView) (p : Place) (x : LinkPacket w start way) (a : TileId) → CanFlow tables w → Fits w.shape tables p (Bound x.packet.dest) → kind_of w.shape x.onto.0 ≡ kind.Tile a
     → next w.shape p (Bound x.packet.dest) ≡ out_by (tile_named a.0) (tile_port a.0 x.packet.dest) → LinkMoves w p (Bound x.packet.dest) x.part x.onto
 at_tile tables w p x a g fits e leads =
     let n : ShapeNumbers = w.shape in
@@ -110,7 +110,7 @@ at_tile tables w p x a g fits e leads =
 
 -- ---- at a router
 
-by_side : {start : Kind} {way : Port} (tables : List Table) (w : WorldView) (p : Place) (x : LinkPacket w start way) (b : Board) (r : RouterAt w x.onto.0 b) (o : Option Work) → IsFlowing tables w → kind_of w.shape x.onto.0 ≡ kind.Router b
+by_side : {start : Kind} {way : Port} (tables : List Table) (w : WorldView) (p : Place) (x : LinkPacket w start way) (b : Board) (r : RouterAt w x.onto.0 b) (o : Option Work) → CanFlow tables w → kind_of w.shape x.onto.0 ≡ kind.Router b
     → next w.shape p (Bound x.packet.dest) ≡ To (Works b (link_side w.shape x.part.0)) → at (link_side w.shape x.part.0) r.view.now.inputs ≡ o → LinkMoves w p (Bound x.packet.dest) x.part x.onto
 by_side tables w p x b r None g e leads there =
     let n : ShapeNumbers = w.shape in
@@ -130,7 +130,7 @@ by_side tables w p x b r None g e leads there =
 by_side tables w p x b r (Some work) g e leads there =
     inl (inr (record { onto = Works b (link_side w.shape x.part.0); leads = leads; taken = record { part = x.onto.0; view = r.view; work = work; is = r.is; named = r.board; there = there } }))
 
-at_router : {start : Kind} {way : Port} (tables : List Table) (w : WorldView) (p : Place) (x : LinkPacket w start way) (b : Board) → IsFlowing tables w → kind_of w.shape x.onto.0 ≡ kind.Router b
+at_router : {start : Kind} {way : Port} (tables : List Table) (w : WorldView) (p : Place) (x : LinkPacket w start way) (b : Board) → CanFlow tables w → kind_of w.shape x.onto.0 ≡ kind.Router b
     → next w.shape p (Bound x.packet.dest) ≡ To (Works b (link_side w.shape x.part.0)) → LinkMoves w p (Bound x.packet.dest) x.part x.onto
 at_router tables w p x b g e leads =
     let r = router_there w x.onto.0 b g.world (onto_there tables w x g) e in
@@ -138,7 +138,7 @@ at_router tables w p x b g e leads =
 
 -- ---- at the host
 
-at_host : {start : Kind} {way : Port} (tables : List Table) (w : WorldView) (p : Place) (x : LinkPacket w start way) → IsFlowing tables w → x.part.0 ≡ part_count w.shape - 3 → LinkMoves w p (Bound x.packet.dest) x.part x.onto
+at_host : {start : Kind} {way : Port} (tables : List Table) (w : WorldView) (p : Place) (x : LinkPacket w start way) → CanFlow tables w → x.part.0 ≡ part_count w.shape - 3 → LinkMoves w p (Bound x.packet.dest) x.part x.onto
 at_host tables w p x g last =
     let n : ShapeNumbers = w.shape in
     let many = host_links_there n in
@@ -160,7 +160,7 @@ first_board n i b e x y =
     let none : i / n.boards_x * n.boards_x ≡ 0 = ap (λ q. q * n.boards_x) high ∙ zero_times n.boards_x in
     omega arith
 
-last_link : {way : Port} (tables : List Table) (w : WorldView) (b : Board) (x : LinkPacket w (kind.Router b) way) → IsFlowing tables w → kind_of w.shape x.onto.0 ≡ kind.Host → x.part.0 ≡ part_count w.shape - 3
+last_link : {way : Port} (tables : List Table) (w : WorldView) (b : Board) (x : LinkPacket w (kind.Router b) way) → CanFlow tables w → kind_of w.shape x.onto.0 ≡ kind.Host → x.part.0 ≡ part_count w.shape - 3
 last_link tables w b x g e =
     let n : ShapeNumbers = w.shape in
     let l = x.part.0 in
@@ -181,7 +181,7 @@ last_link tables w b x g e =
 
 -- ---- wherever the link leads
 
-by_kind : {start : Kind} {way : Port} (tables : List Table) (w : WorldView) (p : Place) (x : LinkPacket w start way) (k : Kind) → IsFlowing tables w → Fits w.shape tables p (Bound x.packet.dest) → kind_of w.shape x.onto.0 ≡ k
+by_kind : {start : Kind} {way : Port} (tables : List Table) (w : WorldView) (p : Place) (x : LinkPacket w start way) (k : Kind) → CanFlow tables w → Fits w.shape tables p (Bound x.packet.dest) → kind_of w.shape x.onto.0 ≡ k
     → (k ≡ kind.Host → x.part.0 ≡ part_count w.shape - 3) → next w.shape p (Bound x.packet.dest) ≡ comes_to k (link_side w.shape x.part.0) x.packet.dest → LinkMoves w p (Bound x.packet.dest) x.part x.onto
 by_kind tables w p x (kind.Tile a) g fits e host leads = at_tile tables w p x a g fits e leads
 by_kind tables w p x (kind.Router b) g fits e host leads = at_router tables w p x b g e leads
@@ -189,7 +189,7 @@ by_kind tables w p x kind.Host g fits e host leads = at_host tables w p x g (hos
 by_kind tables w p x (kind.Link from onto) g fits e host leads = absurd (subst IsVisited e (visited_kind w.shape x.onto.0 (ends_of tables w x g).onto_visited))
 by_kind tables w p x kind.Detector g fits e host leads = absurd (subst IsVisited e (visited_kind w.shape x.onto.0 (ends_of tables w x g).onto_visited))
 
-no_host : {A : Type 0} {way : Port} (tables : List Table) (w : WorldView) (a : TileId) (x : LinkPacket w (kind.Tile a) way) → IsFlowing tables w → kind_of w.shape x.onto.0 ≡ kind.Host → A
+no_host : {A : Type 0} {way : Port} (tables : List Table) (w : WorldView) (a : TileId) (x : LinkPacket w (kind.Tile a) way) → CanFlow tables w → kind_of w.shape x.onto.0 ≡ kind.Host → A
 no_host tables w a x g e =
     let n : ShapeNumbers = w.shape in
     let near : Near n (kind_of n x.from.0) (kind_of n x.onto.0) = links_near n x.part.0 x.from x.onto g.ready.routes.limits x.joins in

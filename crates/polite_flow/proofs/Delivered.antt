@@ -25,7 +25,7 @@ use Rattle.tn_tile.specs.Step.{can_step, pending_at}
 use Rattle.tn_tile.specs.TileView.{TileView}
 use Rattle.tn_tile.proofs.Packets.{delivers}
 use Rattle.tn_tile.proofs.Turns.{one_turn}
-use Rattle.polite_flow.specs.Able.{HasStep, IsFlowing, PartAble, TileAble}
+use Rattle.polite_flow.specs.Able.{HasStep, CanFlow, PartAble, TileAble}
 use Rattle.polite_flow.specs.Enabled.{PendingMoves}
 use Rattle.polite_flow.specs.Flow.{Out}
 use Rattle.polite_flow.specs.OnWay.{Fits, RisesFor}
@@ -51,7 +51,7 @@ pub record ThreadHere (w : WorldView) (p : ℕ) (v : TileView) (a k : ℕ) : Typ
   pub here : is_here v.plan a ≡ true
   pub place : k ≡ place_in_tile v.plan.shape a
 
-pub thread_here : (w : WorldView) (p : ℕ) (v : TileView) (k : ℕ) (tables : List Table) → IsFlowing tables w → slice_get w.parts p ≡ Some (TileV v) → TileAble v → k < tile_threads v.plan.shape → ThreadHere w p v (in_tile w.shape v.plan.tile k) k
+pub thread_here : (w : WorldView) (p : ℕ) (v : TileView) (k : ℕ) (tables : List Table) → CanFlow tables w → slice_get w.parts p ≡ Some (TileV v) → TileAble v → k < tile_threads v.plan.shape → ThreadHere w p v (in_tile w.shape v.plan.tile k) k
 thread_here w p v k tables g is able low =
     let n : ShapeNumbers = w.shape in
     let kinds = tile_kind_at w p v g.world is in
@@ -75,7 +75,7 @@ thread_here w p v k tables g is able low =
     }
 
 -- a tile of which a thread can make a step has a turn
-pub steps_on : (w : WorldView) (p : ℕ) (v : TileView) (tables : List Table) → IsFlowing tables w → slice_get w.parts p ≡ Some (TileV v) → TileAble v → HasStep v → IsEnabled w
+pub steps_on : (w : WorldView) (p : ℕ) (v : TileView) (tables : List Table) → CanFlow tables w → slice_get w.parts p ≡ Some (TileV v) → TileAble v → HasStep v → IsEnabled w
 steps_on w p v tables g is able step =
     let k = step.0 in
     let a = in_tile w.shape v.plan.tile k in
@@ -102,7 +102,7 @@ leaves n tables t P dest.Host f e = leaves_by t (rising_of t.x t.y port.Up) e
 leaves n tables t P (dest.Mask tile mask) f e = absurd f
 leaves n tables t P (dest.Key key) f e = leaves_by t (rising_of t.x t.y port.Up) e
 
-delivered : (tables : List Table) (w : WorldView) (p : ℕ) (v : TileView) (k : ℕ) (packet : Packet) → IsFlowing tables w → slice_get w.parts p ≡ Some (TileV v) → pending_at v.now k ≡ Some packet
+delivered : (tables : List Table) (w : WorldView) (p : ℕ) (v : TileView) (k : ℕ) (packet : Packet) → CanFlow tables w → slice_get w.parts p ≡ Some (TileV v) → pending_at v.now k ≡ Some packet
     → MovesBy (event.Deliver (record { 0 = in_tile w.shape v.plan.tile k })) w (Pending (tile_named v.plan.tile) k) (Bound packet.dest)
 delivered tables w p v k packet g is there =
     let n : ShapeNumbers = w.shape in

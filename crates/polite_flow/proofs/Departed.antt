@@ -31,7 +31,7 @@ use Rattle.tn_rows.proofs.Meeting.{can_depart, router_can_depart, some_mapped}
 use Rattle.tn_tile.specs.Rows.{depart_row, with_node}
 use Rattle.tn_tile.specs.TileView.{TileView}
 use Rattle.tn_ways.specs.Ways.{has_tile_way, has_way_out}
-use Rattle.polite_flow.specs.Able.{IsFlowing, IsLetGo, NodeAble, PartAble, TileAble}
+use Rattle.polite_flow.specs.Able.{CanFlow, IsLetGo, NodeAble, PartAble, TileAble}
 use Rattle.polite_flow.specs.Enabled.{RoutersDepartTo, TilesDepartTo}
 use Rattle.polite_flow.specs.OnWay.{Fits, TileFits}
 use Rattle.polite_flow.specs.Places.{Item, Bound, RouterLink, RouterWaits, Tile, TileLink, TileWaits, tile_named}
@@ -87,7 +87,7 @@ tile_way_there n tables a port.Down k f = absurd f
 tile_way_there n tables a port.HostPort k f = absurd f
 tile_way_there n tables a port.Here k f = absurd f
 
-tile_departs : (tables : List Table) (w : WorldView) (p : ℕ) (v : TileView) (way : Port) (k : Packet) → IsFlowing tables w → slice_get w.parts p ≡ Some (TileV v) → at way v.now.node.out ≡ Some k
+tile_departs : (tables : List Table) (w : WorldView) (p : ℕ) (v : TileView) (way : Port) (k : Packet) → CanFlow tables w → slice_get w.parts p ≡ Some (TileV v) → at way v.now.node.out ≡ Some k
     → (l : PartId) × MovesBy (event.Depart (record { 0 = p }) l) w (TileWaits (tile_named v.plan.tile) way) (Bound k.dest)
 tile_departs tables w p v way k g is there =
     let n : ShapeNumbers = w.shape in
@@ -123,7 +123,7 @@ tiles_depart_to tables w t way g x =
 
 -- ---- of a router
 
-router_departs_to : (tables : List Table) (w : WorldView) (p : ℕ) (v : RouterView) (way : Port) (k : Packet) → IsFlowing tables w → slice_get w.parts p ≡ Some (RouterV v) → at way v.now.node.out ≡ Some k
+router_departs_to : (tables : List Table) (w : WorldView) (p : ℕ) (v : RouterView) (way : Port) (k : Packet) → CanFlow tables w → slice_get w.parts p ≡ Some (RouterV v) → at way v.now.node.out ≡ Some k
     → (l : PartId) × MovesBy (event.Depart (record { 0 = p }) l) w (RouterWaits v.plan.board way) (Bound k.dest)
 router_departs_to tables w p v way k g is there =
     let n : ShapeNumbers = w.shape in

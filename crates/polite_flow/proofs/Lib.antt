@@ -16,6 +16,7 @@ pub mod Routed
 pub mod RoutedOn
 pub mod Routers
 pub mod Steps
+pub mod Threading
 pub mod Tiles
 pub mod Unjammed
 pub mod Watched

@@ -35,7 +35,7 @@ use Rattle.tn_rows.specs.PartView.{RouterV}
 use Rattle.tn_rows.specs.Places.{is_router, one_if}
 use Rattle.tn_rows.specs.WorldView.{WorldView}
 use Rattle.tn_rows.proofs.Meeting.{some_mapped, some_router}
-use Rattle.polite_flow.specs.Able.{IsFlowing}
+use Rattle.polite_flow.specs.Able.{CanFlow}
 use Rattle.polite_flow.specs.Enabled.{RoutersRoute}
 use Rattle.polite_flow.specs.OnWay.{Fits}
 use Rattle.polite_flow.specs.Places.{Item, Bound, Due, Works, RouterWaits, router_way}
@@ -164,7 +164,7 @@ by_move n tables b side w s (Some sent) fit e p is = by_way n tables b side w s 
 abbrev RouteMoves : WorldView → List Table → ℕ → Port → Board → Type 0
 RouteMoves w tables p side b = IsSome (happened (event.Route (record { 0 = p })) w) ⊎ ((k : Item) × Fits w.shape tables (Works b side) k × IsBlocked w (Works b side) k)
 
-router_routes : (tables : List Table) (w : WorldView) (p : ℕ) (v : RouterView) (side : Port) (work : Work) → IsFlowing tables w → slice_get w.parts p ≡ Some (RouterV v) → at side v.now.inputs ≡ Some work → RouteMoves w tables p side v.plan.board
+router_routes : (tables : List Table) (w : WorldView) (p : ℕ) (v : RouterView) (side : Port) (work : Work) → CanFlow tables w → slice_get w.parts p ≡ Some (RouterV v) → at side v.now.inputs ≡ Some work → RouteMoves w tables p side v.plan.board
 router_routes tables w p v side work g is there =
     let n : ShapeNumbers = w.shape in
     let b = v.plan.board in

@@ -21,7 +21,7 @@ use Rattle.tn_router.specs.RouterView.{RouterView}
 use Rattle.tn_rows.specs.PartView.{PartView, TileV, RouterV, LinkV, HostV, DetectorV, AbsentV}
 use Rattle.tn_rows.specs.WorldView.{WorldView}
 use Rattle.tn_rows.proofs.HostLinks.{host_links_there}
-use Rattle.polite_flow.specs.Able.{IsFlowing, IsWatched, MovesUnlessStill, PartAble}
+use Rattle.polite_flow.specs.Able.{CanFlow, IsWatched, MovesUnlessStill, PartAble}
 use Rattle.polite_flow.specs.Enabled.{SomeEventAtEachMoment}
 use Rattle.polite_flow.specs.Standing.{IsEnabled, PartHas, RouterHas}
 use Rattle.polite_flow.proofs.Delivered.{steps_on}
@@ -45,11 +45,11 @@ search_below f (suc n) = elim (search_below f n) [
 
 -- ---- a part that is not still
 
-some_there : {X : Type 0} (o : Option X) → is_none o ≡ false → is_some o ≡ true
+pub some_there : {X : Type 0} (o : Option X) → is_none o ≡ false → is_some o ≡ true
 some_there None h = cc h
 some_there (Some x) h = refl
 
-port_has : {X : Type 0} (s : Ports X) → all_empty s ≡ false → (way : Port) × (is_some (at way s) ≡ true)
+pub port_has : {X : Type 0} (s : Ports X) → all_empty s ≡ false → (way : Port) × (is_some (at way s) ≡ true)
 port_has s h = elim (and_cases (is_none s.east && is_none s.west && is_none s.south && is_none s.north && is_none s.up && is_none s.down) (is_none s.host) h) [
   | inr host ↦ (port.HostPort, some_there s.host host)
   | inl six ↦ elim (and_cases (is_none s.east && is_none s.west && is_none s.south && is_none s.north && is_none s.up) (is_none s.down) six) [
@@ -76,7 +76,7 @@ router_has v h = elim (and_cases (all_empty v.now.inputs) (all_empty v.now.node.
   | inr waits ↦ inr (port_has v.now.node.out waits)
 ]
 
-busy : (tables : List Table) (w : WorldView) (p : ℕ) (x : PartView) → IsFlowing tables w → get_or w.parts p AbsentV ≡ x → slice_get w.parts p ≡ Some x → MovesUnlessStill x → (facts_of (Some (shows x))).view.still ≡ false → IsEnabled w
+busy : (tables : List Table) (w : WorldView) (p : ℕ) (x : PartView) → CanFlow tables w → get_or w.parts p AbsentV ≡ x → slice_get w.parts p ≡ Some x → MovesUnlessStill x → (facts_of (Some (shows x))).view.still ≡ false → IsEnabled w
 busy tables w p (TileV v) g own is moves h = elim (moves h) [
   | inl has ↦ some_event tables w g (p, subst PartHas (sym own) has)
   | inr step ↦ steps_on w p v tables g is (at_place (λ _ y. PartAble w.shape y) w p (TileV v) g.able is) step
@@ -101,7 +101,7 @@ link_has (HostV s) h = cc h
 link_has (DetectorV v) h = cc h
 link_has AbsentV h = cc h
 
-carries : (tables : List Table) (w : WorldView) (l : ℕ) → IsFlowing tables w → l < link_count w.shape → ((rest_of w).link l == 0) ≡ false → IsEnabled w
+carries : (tables : List Table) (w : WorldView) (l : ℕ) → CanFlow tables w → l < link_count w.shape → ((rest_of w).link l == 0) ≡ false → IsEnabled w
 carries tables w l g low h =
     let n : ShapeNumbers = w.shape in
     let p = visited n + l in
@@ -115,7 +115,7 @@ carries tables w l g low h =
 
 -- ---- every moment
 
-collecting : (tables : List Table) (w : WorldView) → IsWatched tables w → ((p : ℕ) → MovesUnlessStill (get_or w.parts p AbsentV)) → IsFlowing tables w → IsEnabled w
+collecting : (tables : List Table) (w : WorldView) → IsWatched tables w → ((p : ℕ) → MovesUnlessStill (get_or w.parts p AbsentV)) → CanFlow tables w → IsEnabled w
 collecting tables w q moves g =
     let n : ShapeNumbers = w.shape in
     let count : length w.parts ≡ part_count n = g.world.count in

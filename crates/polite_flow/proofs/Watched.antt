@@ -21,7 +21,7 @@ use Rattle.tn_rest.specs.Seen.{facts_of, no_facts}
 use Rattle.tn_rows.specs.PartView.{PartView, TileV, RouterV, LinkV, HostV, DetectorV, AbsentV}
 use Rattle.tn_rows.specs.WorldView.{WorldView}
 use Rattle.tn_rows.proofs.PartKinds.{IsBehind, behind_kind}
-use Rattle.polite_flow.specs.Able.{IsFlowing, IsLetGo, IsWatched}
+use Rattle.polite_flow.specs.Able.{CanFlow, IsLetGo, IsWatched}
 use Rattle.polite_flow.specs.Enabled.{SomeEventAtEachPhase}
 use Rattle.polite_flow.specs.Standing.{IsEnabled}
 use Rattle.polite_flow.proofs.Enabling.{some_event}
@@ -63,7 +63,7 @@ all_let_go tables w g free p = elim (cases_lt p (length w.parts)) [
   | inr past ↦ subst IsLetGo (sym (get_or_past w.parts p AbsentV past)) tt
 ]
 
-flowing : (tables : List Table) (w : WorldView) → IsWatched tables w → (rest_of w).detector.phase ≡ phase.Collect → IsFlowing tables w
+flowing : (tables : List Table) (w : WorldView) → IsWatched tables w → (rest_of w).detector.phase ≡ phase.Collect → CanFlow tables w
 flowing tables w g e =
     let n = visited w.shape in
     let m = link_count w.shape in
@@ -79,7 +79,7 @@ at_phase w (phase.Confirm i) limits quiet collect e = open_elsewhere w limits qu
 at_phase w (phase.Release i) limits quiet collect e = open_elsewhere w limits quiet (λ c. (let d : phase.Release i ≡ phase.Collect = sym e ∙ c in absurd (cc)))
 at_phase w (phase.Go i) limits quiet collect e = open_elsewhere w limits quiet (λ c. (let d : phase.Go i ≡ phase.Collect = sym e ∙ c in absurd (cc)))
 
-pub at_each_phase : (tables : List Table) (w : WorldView) → IsWatched tables w → (IsFlowing tables w → IsEnabled w) → IsEnabled w
+pub at_each_phase : (tables : List Table) (w : WorldView) → IsWatched tables w → (CanFlow tables w → IsEnabled w) → IsEnabled w
 at_each_phase tables w g collect = at_phase w (rest_of w).detector.phase g.ready.routes.limits g.quiet (λ e. collect (flowing tables w g e)) refl
 
 pub watched_event : SomeEventAtEachPhase

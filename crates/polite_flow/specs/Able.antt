@@ -59,7 +59,7 @@ IsLetGo (DetectorV v) = Unit {0}
 IsLetGo AbsentV = Unit {0}
 
 -- a machine whose packets are all on their way, and whose parts can move packets and are not held
-pub record IsFlowing (tables : List Table) (w : WorldView) : Type 0 where
+pub record CanFlow (tables : List Table) (w : WorldView) : Type 0 where
   pub world : IsWorld w
   pub ready : IsReady tables w
   pub on_way : WorldOnWay tables w

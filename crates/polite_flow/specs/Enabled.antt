@@ -15,7 +15,7 @@ use Rattle.tn_rows.specs.WorldView.{WorldView}
 use Rattle.tn_slots.specs.Pool.{first_free}
 use Rattle.tn_tile.specs.Step.{pending_at}
 use Rattle.tn_tile.specs.TileView.{TileView}
-use Rattle.polite_flow.specs.Able.{IsFlowing, IsWatched, MovesUnlessStill}
+use Rattle.polite_flow.specs.Able.{CanFlow, IsWatched, MovesUnlessStill}
 use Rattle.polite_flow.specs.Flow.{Out}
 use Rattle.polite_flow.specs.OnWay.{Fits}
 use Rattle.polite_flow.specs.Places.{Item, Bound, Tile, Place, Pending, RouterLink, RouterWaits, TileLink, TileWaits, Works, next, tile_named}
@@ -23,21 +23,21 @@ use Rattle.polite_flow.specs.Standing.{HasPacket, IsBlocked, IsEnabled, LinkPack
 
 -- a packet that a thread sent is delivered, unless its way out is taken
 abbrev pub PendingMoves : Type 0
-PendingMoves = (tables : List Table) (w : WorldView) (t : Tile) (thread : ℕ) → IsFlowing tables w → (x : TilePacket w t (λ s. pending_at s thread))
+PendingMoves = (tables : List Table) (w : WorldView) (t : Tile) (thread : ℕ) → CanFlow tables w → (x : TilePacket w t (λ s. pending_at s thread))
     → MovesBy (event.Deliver (record { 0 = in_tile w.shape x.view.plan.tile thread })) w (Pending t thread) (Bound x.packet.dest)
 
 -- a packet that waits for a way out departs to a link by this way, unless the link is full
 abbrev pub TilesDepartTo : Type 0
-TilesDepartTo = (tables : List Table) (w : WorldView) (t : Tile) (way : Port) → IsFlowing tables w → (x : TilePacket w t (λ s. at way s.node.out))
+TilesDepartTo = (tables : List Table) (w : WorldView) (t : Tile) (way : Port) → CanFlow tables w → (x : TilePacket w t (λ s. at way s.node.out))
     → (l : PartId) × MovesBy (event.Depart (record { 0 = x.part }) l) w (TileWaits t way) (Bound x.packet.dest)
 
 abbrev pub RoutersDepartTo : Type 0
-RoutersDepartTo = (tables : List Table) (w : WorldView) (b : Board) (way : Port) → IsFlowing tables w → (x : RouterPacket w b way)
+RoutersDepartTo = (tables : List Table) (w : WorldView) (b : Board) (way : Port) → CanFlow tables w → (x : RouterPacket w b way)
     → (l : PartId) × MovesBy (event.Depart (record { 0 = x.part }) l) w (RouterWaits b way) (Bound x.packet.dest)
 
 -- a Route is enabled, unless the packet's next copy, or the whole packet, goes to a way out that is taken
 abbrev pub RoutersRoute : Type 0
-RoutersRoute = (tables : List Table) (w : WorldView) (b : Board) (side : Port) → IsFlowing tables w → (x : RouterWork w b side)
+RoutersRoute = (tables : List Table) (w : WorldView) (b : Board) (side : Port) → CanFlow tables w → (x : RouterWork w b side)
     → IsSome (happened (event.Route (record { 0 = x.part })) w) ⊎ ((k : Item) × Fits w.shape tables (Works b side) k × IsBlocked w (Works b side) k)
 
 -- a packet is for threads of a tile on which no slot is free
@@ -52,16 +52,16 @@ abbrev pub LinkMoves : WorldView → Place → Item → PartId → PartId → Ty
 LinkMoves w p k l onto = MovesBy (event.Arrive l onto) w p k ⊎ (HasNoSlot w onto p k ⊎ IsSome (happened event.HostTake w))
 
 abbrev pub TileLinksMove : Type 0
-TileLinksMove = (tables : List Table) (w : WorldView) (a : TileId) (way : Port) → IsFlowing tables w → (x : LinkPacket w (kind.Tile a) way)
+TileLinksMove = (tables : List Table) (w : WorldView) (a : TileId) (way : Port) → CanFlow tables w → (x : LinkPacket w (kind.Tile a) way)
     → LinkMoves w (TileLink (tile_named a.0) way) (Bound x.packet.dest) x.part x.onto
 
 abbrev pub RouterLinksMove : Type 0
-RouterLinksMove = (tables : List Table) (w : WorldView) (b : Board) (way : Port) → IsFlowing tables w → (x : LinkPacket w (kind.Router b) way)
+RouterLinksMove = (tables : List Table) (w : WorldView) (b : Board) (way : Port) → CanFlow tables w → (x : LinkPacket w (kind.Router b) way)
     → LinkMoves w (RouterLink b way) (Bound x.packet.dest) x.part x.onto
 
 -- if a packet stands somewhere, an event is enabled
 abbrev pub SomeEventIsEnabled : Type 0
-SomeEventIsEnabled = (tables : List Table) (w : WorldView) → IsFlowing tables w → HasPacket w → IsEnabled w
+SomeEventIsEnabled = (tables : List Table) (w : WorldView) → CanFlow tables w → HasPacket w → IsEnabled w
 
 -- and so it is whatever the detector does, if its invariant holds
 abbrev pub SomeEventAtEachPhase : Type 0

@@ -10,5 +10,6 @@ pub mod Places
 pub mod Ranks
 pub mod Routers
 pub mod Standing
+pub mod Threads
 pub mod Tiles
 pub mod World

@@ -2,7 +2,7 @@ use Rattle.polite_flow.proofs.Arrived.{router_links_move, tile_links_move}
 use Rattle.polite_flow.proofs.Delivered.{pending_moves}
 use Rattle.polite_flow.proofs.Departed.{routers_depart_to, tiles_depart_to}
 use Rattle.polite_flow.proofs.RoutedOn.{routers_route}
-use Rattle.polite_flow.proofs.flowing.law_moves.Goals as goal
+use Rattle.polite_flow.proofs.moving.law_moves.Goals as goal
 
 pub returns-clause-pending : goal.returns-clause-pending
 returns-clause-pending c = pending_moves

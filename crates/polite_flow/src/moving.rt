@@ -2,6 +2,7 @@
 //! contract is what it says.
 
 ghost use Rattle.polite_flow.specs.Enabled.{PendingMoves, RouterLinksMove, RoutersDepartTo, RoutersRoute, SomeEventAtEachMoment, SomeEventAtEachPhase, SomeEventIsEnabled, TileLinksMove, TilesDepartTo};
+ghost use Rattle.polite_flow.specs.Threads.{TilesMoveUnlessStill};
 
 /// Of a machine whose packets are on their way, each kind of place has its event. This event is enabled, unless the next place of the
 /// packet is taken, or the packet is for threads of a tile that has no free slot.
@@ -25,4 +26,10 @@ pub fn law_enabled()
 /// has no message to send.
 pub fn law_unjammed()
     ensures { SomeEventAtEachMoment }
+{}
+
+/// A tile that is not still has a packet or a thread that can make a step, if each thread waits for room to send whenever it waits, has
+/// not trapped, has steps left, and has no letters when it is dead.
+pub fn law_threads()
+    ensures { TilesMoveUnlessStill }
 {}

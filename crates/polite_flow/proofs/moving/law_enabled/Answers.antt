@@ -1,6 +1,6 @@
 use Rattle.polite_flow.proofs.Enabling.{some_event}
 use Rattle.polite_flow.proofs.Watched.{watched_event}
-use Rattle.polite_flow.proofs.flowing.law_enabled.Goals as goal
+use Rattle.polite_flow.proofs.moving.law_enabled.Goals as goal
 
 pub returns-clause-packet : goal.returns-clause-packet
 returns-clause-packet c = some_event
