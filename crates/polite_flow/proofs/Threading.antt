@@ -1,5 +1,5 @@
 -- Of a tile that is not still a thread can make a step, or a packet stands on the tile.
-use Rattle.std.proofs.Common.{ℕ, zero, suc, ◌≡◌, ◌≢◌, ◌<◌, ◌==◌, ◌&&◌, ◌||◌, Bool, true, false, refl, sym, ap, ◌∙◌, subst, List, [], ◌∷◌, length, get_or, inl, inr, arith, Option, Some, None, is_some, is_none}
+use Rattle.std.proofs.Common.{ℕ, suc, ◌≡◌, ◌<◌, ◌==◌, ◌&&◌, ◌||◌, Bool, true, false, refl, ap, ◌∙◌, subst, List, [], ◌∷◌, length, get_or, inl, inr, arith, Option, Some, None, is_some, is_none}
 use Rattle.std.specs.Prelude.{◌⊎◌, bit_and}
 use Rattle.std.specs.List.{list_all}
 use Rattle.std.proofs.lemmas.Bool.{and_cases, and_from, eq-eqb, lt-ltb, or_left, or_right}
@@ -13,9 +13,8 @@ use Rattle.tn_thread.specs.declared.state.ThreadState.TheVariants as state
 use Rattle.tn_thread.specs.declared.thread.Thread.{Thread}
 use Rattle.tn_thread.specs.Sight.{Sight}
 use Rattle.tn_thread.specs.Step.{runnable, wait_holds}
-use Rattle.tn_tile.specs.Kept.{IsFit}
-use Rattle.tn_tile.specs.Step.{can_step, no_thread, pending_at, sight_at, thread_at}
-use Rattle.tn_tile.specs.Still.{does_nothing, is_nil, is_still}
+use Rattle.tn_tile.specs.Step.{no_thread, pending_at, sight_at, thread_at}
+use Rattle.tn_tile.specs.Still.{does_nothing, is_nil}
 use Rattle.tn_tile.specs.TileView.{TileView}
 use Rattle.polite_flow.specs.Able.{HasStep}
 use Rattle.polite_flow.specs.Standing.{TileHas}

@@ -1,6 +1,8 @@
 pub mod Able
+pub mod Always
 pub mod Enabled
 pub mod Flow
+pub mod Flowing
 pub mod Fresh
 pub mod Law
 pub mod Machine
@@ -9,7 +11,9 @@ pub mod OnWay
 pub mod Places
 pub mod Ranks
 pub mod Routers
+pub mod Sending
 pub mod Standing
 pub mod Threads
 pub mod Tiles
+pub mod Traffic
 pub mod World

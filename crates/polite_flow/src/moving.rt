@@ -1,6 +1,7 @@
 //! Laws of a whole machine of a graph's job: a packet that stands anywhere lets an event be enabled. A law answers nothing: its
 //! contract is what it says.
 
+ghost use Rattle.polite_flow.specs.Always.{WalksGoOn};
 ghost use Rattle.polite_flow.specs.Enabled.{PendingMoves, RouterLinksMove, RoutersDepartTo, RoutersRoute, SomeEventAtEachMoment, SomeEventAtEachPhase, SomeEventIsEnabled, TileLinksMove, TilesDepartTo};
 ghost use Rattle.polite_flow.specs.Threads.{TilesMoveUnlessStill};
 
@@ -32,4 +33,11 @@ pub fn law_unjammed()
 /// not trapped, has steps left, and has no letters when it is dead.
 pub fn law_threads()
     ensures { TilesMoveUnlessStill }
+{}
+
+/// Along each walk from the start of a machine whose threads send by keys of packets on their way, an event is enabled, if each part goes
+/// on: no count is at its end, each packet on a link is one of the machine, a tile without a free slot has a thread that can make a
+/// step, and each thread goes on as `law_threads` asks.
+pub fn law_walks()
+    ensures { WalksGoOn }
 {}
