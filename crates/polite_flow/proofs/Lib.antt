@@ -1,5 +1,6 @@
 pub mod Arrived
 pub mod Arriving
+pub mod Counted
 pub mod Delivered
 pub mod Departed
 pub mod Departing

@@ -67,6 +67,16 @@ router_kind_by n kind.Detector v f = absurd f
 pub router_kind_at : (w : WorldView) (p : ℕ) (v : RouterView) → IsWorld w → slice_get w.parts p ≡ Some (RouterV v) → RouterKind w.shape (kind_of w.shape p) v
 router_kind_at w p v made e = router_kind_by w.shape (kind_of w.shape p) v (fits_at w p (RouterV v) made e)
 
+host_kind_by : (n : ShapeNumbers) (k : Kind) (s : HostState) → FitsKind n k (HostV s) → k ≡ kind.Host
+host_kind_by n kind.Host s f = refl
+host_kind_by n (kind.Tile a) s f = absurd f
+host_kind_by n (kind.Router b) s f = absurd f
+host_kind_by n (kind.Link from onto) s f = absurd f
+host_kind_by n kind.Detector s f = absurd f
+
+pub host_kind_at : (w : WorldView) (p : ℕ) (s : HostState) → IsWorld w → slice_get w.parts p ≡ Some (HostV s) → kind_of w.shape p ≡ kind.Host
+host_kind_at w p s made e = host_kind_by w.shape (kind_of w.shape p) s (fits_at w p (HostV s) made e)
+
 -- a part that is a link joins two parts
 pub record LinkKind (k : Kind) : Type 0 where
   pub from : PartId

@@ -30,7 +30,7 @@ use Rattle.polite_flow.proofs.PartsAt.{router_kind_at, tile_kind_at}
 -- ---- what the laws of rest see of a part
 
 -- a part of a kind that the detector visits is a visited part
-below : (n : ShapeNumbers) (p : ℕ) (k : Kind) → kind_of n p ≡ k → (IsBehind k → ⊥) → p < visited n
+pub below : (n : ShapeNumbers) (p : ℕ) (k : Kind) → kind_of n p ≡ k → (IsBehind k → ⊥) → p < visited n
 below n p k e not = elim (cases_lt p (visited n)) [
   | inl low ↦ low
   | inr past ↦ absurd (not (subst IsBehind e (behind_kind n p past)))

@@ -35,9 +35,9 @@ pub fn law_threads()
     ensures { TilesMoveUnlessStill }
 {}
 
-/// Along each walk from the start of a machine whose threads send by keys of packets on their way, an event is enabled, if each part goes
-/// on: no count is at its end, each packet on a link is one of the machine, a tile without a free slot has a thread that can make a
-/// step, and each thread goes on as `law_threads` asks.
+/// Along each walk of fewer than 2^50 events from the start of a machine whose threads send by keys of packets on their way, an event is
+/// enabled, if each part goes on: each packet on a link is one of the machine, a tile without a free slot has a thread that can make a
+/// step, the count of dropped letters is not at its end, and each thread goes on as `law_threads` asks.
 pub fn law_walks()
     ensures { WalksGoOn }
 {}
