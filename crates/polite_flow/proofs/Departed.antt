@@ -31,7 +31,7 @@ use Rattle.tn_rows.proofs.Meeting.{can_depart, router_can_depart, some_mapped}
 use Rattle.tn_tile.specs.Rows.{depart_row, with_node}
 use Rattle.tn_tile.specs.TileView.{TileView}
 use Rattle.tn_ways.specs.Ways.{has_tile_way, has_way_out}
-use Rattle.polite_flow.specs.Able.{CanFlow, NodeAble, PartAble, TileAble}
+use Rattle.polite_flow.specs.Able.{CanFlow, IsLetGo, NodeAble, PartAble, TileAble}
 use Rattle.polite_flow.specs.Enabled.{RoutersDepartTo, TilesDepartTo}
 use Rattle.polite_flow.specs.OnWay.{Fits, TileFits}
 use Rattle.polite_flow.specs.Places.{Item, Bound, RouterLink, RouterWaits, Tile, TileLink, TileWaits, tile_named}
@@ -42,9 +42,9 @@ use Rattle.polite_flow.proofs.PartsAt.{LinkBy, at_place, link_by, router_kind_at
 use Rattle.polite_flow.proofs.Tiles.{rises_fact, some_left}
 
 -- a node that the detector does not hold gives the packet that waits
-node_gives : (way : Port) (k : Packet) (s : Node) → NodeAble s → at way s.out ≡ Some k → is_some (node_departs way s) ≡ true
-node_gives way k s a e =
-    ap (λ h. is_some (departed_with (cond h None (at way s.out)) way s)) a.free
+node_gives : (way : Port) (k : Packet) (s : Node) → NodeAble s → s.held ≡ false → at way s.out ≡ Some k → is_some (node_departs way s) ≡ true
+node_gives way k s a free e =
+    ap (λ h. is_some (departed_with (cond h None (at way s.out)) way s)) free
     ∙ (ap (λ o. is_some (departed_with o way s)) e
     ∙ ap (λ b. is_some (cond b (Some (departed way s)) None)) a.gives)
 
@@ -101,7 +101,7 @@ tile_departs tables w p v way k g is there =
     let l = link_by w p way g.world g.ready.routes.limits leads in
     let by : link_way v.plan.shape l.part.0 ≡ way = ap (λ m. link_way m l.part.0) kinds.shape ∙ l.by in
     let gives : is_some (depart_row (link_way v.plan.shape l.part.0) v.now) ≡ true =
-    ap (λ x. is_some (depart_row x v.now)) by ∙ (some_mapped (with_node v.now) (node_departs way v.now.node) ∙ node_gives way k v.now.node able.node there) in (
+    ap (λ x. is_some (depart_row x v.now)) by ∙ (some_mapped (with_node v.now) (node_departs way v.now.node) ∙ node_gives way k v.now.node able.node (at_place (λ _ x. IsLetGo x) w p (TileV v) g.free is) there) in (
       l.part,
       elim (cases_Bool (ltb (length l.view.packets) l.view.capacity)) [
         | inl room ↦
@@ -137,7 +137,7 @@ router_departs_to tables w p v way k g is there =
     let l = link_by w p way g.world g.ready.routes.limits leads in
     let by : link_way v.plan.shape l.part.0 ≡ way = ap (λ m. link_way m l.part.0) kinds.shape ∙ l.by in
     let gives : is_some (router_departs (link_way v.plan.shape l.part.0) v.now) ≡ true =
-    ap (λ x. is_some (router_departs x v.now)) by ∙ (some_mapped (router_with_node v.now) (node_departs way v.now.node) ∙ node_gives way k v.now.node able there) in (
+    ap (λ x. is_some (router_departs x v.now)) by ∙ (some_mapped (router_with_node v.now) (node_departs way v.now.node) ∙ node_gives way k v.now.node able (at_place (λ _ x. IsLetGo x) w p (RouterV v) g.free is) there) in (
       l.part,
       elim (cases_Bool (ltb (length l.view.packets) l.view.capacity)) [
         | inl room ↦

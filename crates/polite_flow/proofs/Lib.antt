@@ -1,5 +1,6 @@
 pub mod Arrived
 pub mod Arriving
+pub mod Counted
 pub mod Delivered
 pub mod Departed
 pub mod Departing
@@ -24,5 +25,9 @@ pub mod Routers
 pub mod Sending
 pub mod Starting
 pub mod Steps
+pub mod Threading
 pub mod Tiles
+pub mod Unjammed
+pub mod Walked
+pub mod Watched
 pub mod World

@@ -2,7 +2,7 @@
 use Rattle.std.proofs.Common.{ℕ, zero, suc, ◌≡◌, ◌<◌, ◌-◌, Bool, true, get_or, refl, sym, ap, ◌∙◌, subst, inl, inr, arith, Some, is_some, option_map}
 use Rattle.std.specs.Prelude.{option_and_then, slice_get}
 use Rattle.std.proofs.lemmas.Bool.{cases_lt}
-use Rattle.std.proofs.lemmas.Option.{get_or_from_slice_get, slice_get-get_or, slice_get_within}
+use Rattle.std.proofs.lemmas.Option.{get_or_from_slice_get, slice_get-get_or}
 use Rattle.tn_base.specs.declared.event.Event.{Event}
 use Rattle.tn_base.specs.declared.ids.Board.{Board}
 use Rattle.tn_base.specs.declared.ids.PartId.{PartId}
@@ -18,6 +18,7 @@ use Rattle.tn_base.proofs.LinkEnds.{joins_visited}
 use Rattle.tn_base.proofs.TilePlaces.{tile_kind, tile_placed}
 use Rattle.tn_host.specs.HostView.{HostState}
 use Rattle.tn_link.specs.LinkView.{LinkView}
+use Rattle.tn_quiet.proofs.Machines.{fits_at}
 use Rattle.tn_router.specs.RouterView.{RouterView}
 use Rattle.tn_rows.specs.Events.{FitsKind, IsWorld, after, happened_at, meets, meets_at, with_both, with_part}
 use Rattle.tn_rows.specs.PartView.{PartView, TileV, RouterV, LinkV, HostV, DetectorV, AbsentV}
@@ -36,12 +37,6 @@ use Rattle.tn_ways.proofs.Law.{ways}
 -- what holds of the part at each place holds of a part that is there
 pub at_place : (P : ℕ → PartView → Type 0) (w : WorldView) (p : ℕ) (x : PartView) → ((q : ℕ) → P q (get_or w.parts q AbsentV)) → slice_get w.parts p ≡ Some x → P p x
 at_place P w p x all e = subst (P p) (get_or_from_slice_get w.parts p x AbsentV e) (all p)
-
-fits_at : (w : WorldView) (p : ℕ) (x : PartView) → IsWorld w → slice_get w.parts p ≡ Some x → FitsKind w.shape (kind_of w.shape p) x
-fits_at w p x made e =
-    let within = slice_get_within w.parts p x e in
-    let count = made.count in
-    subst (FitsKind w.shape (kind_of w.shape p)) (get_or_from_slice_get w.parts p x AbsentV e) (made.each p (omega arith))
 
 -- a tile's place is that of its address, and the tile has the machine's numbers
 pub record TileKind (n : ShapeNumbers) (k : Kind) (v : TileView) : Type 0 where
@@ -71,6 +66,16 @@ router_kind_by n kind.Detector v f = absurd f
 
 pub router_kind_at : (w : WorldView) (p : ℕ) (v : RouterView) → IsWorld w → slice_get w.parts p ≡ Some (RouterV v) → RouterKind w.shape (kind_of w.shape p) v
 router_kind_at w p v made e = router_kind_by w.shape (kind_of w.shape p) v (fits_at w p (RouterV v) made e)
+
+host_kind_by : (n : ShapeNumbers) (k : Kind) (s : HostState) → FitsKind n k (HostV s) → k ≡ kind.Host
+host_kind_by n kind.Host s f = refl
+host_kind_by n (kind.Tile a) s f = absurd f
+host_kind_by n (kind.Router b) s f = absurd f
+host_kind_by n (kind.Link from onto) s f = absurd f
+host_kind_by n kind.Detector s f = absurd f
+
+pub host_kind_at : (w : WorldView) (p : ℕ) (s : HostState) → IsWorld w → slice_get w.parts p ≡ Some (HostV s) → kind_of w.shape p ≡ kind.Host
+host_kind_at w p s made e = host_kind_by w.shape (kind_of w.shape p) s (fits_at w p (HostV s) made e)
 
 -- a part that is a link joins two parts
 pub record LinkKind (k : Kind) : Type 0 where

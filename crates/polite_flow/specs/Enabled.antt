@@ -1,5 +1,5 @@
 -- If a packet of a graph's job stands anywhere on a machine, an event is enabled.
-use Rattle.std.specs.Prelude.{ℕ, ◌≡◌, ◌⊎◌, List, Some, None, IsSome, slice_get}
+use Rattle.std.specs.Prelude.{ℕ, ◌≡◌, ◌⊎◌, List, Some, None, IsSome, slice_get, slice_index_or}
 use Rattle.tn_base.specs.declared.event.Event.TheVariants as event
 use Rattle.tn_base.specs.declared.ids.Board.{Board}
 use Rattle.tn_base.specs.declared.ids.PartId.{PartId}
@@ -10,12 +10,12 @@ use Rattle.tn_base.specs.Address.{in_tile}
 use Rattle.tn_keys.specs.Tables.{Table}
 use Rattle.tn_node.specs.PortRows.{at}
 use Rattle.tn_rows.specs.Events.{happened}
-use Rattle.tn_rows.specs.PartView.{TileV}
+use Rattle.tn_rows.specs.PartView.{TileV, AbsentV}
 use Rattle.tn_rows.specs.WorldView.{WorldView}
 use Rattle.tn_slots.specs.Pool.{first_free}
 use Rattle.tn_tile.specs.Step.{pending_at}
 use Rattle.tn_tile.specs.TileView.{TileView}
-use Rattle.polite_flow.specs.Able.{CanFlow}
+use Rattle.polite_flow.specs.Able.{CanFlow, IsWatched, MovesUnlessStill}
 use Rattle.polite_flow.specs.Flow.{Out}
 use Rattle.polite_flow.specs.OnWay.{Fits}
 use Rattle.polite_flow.specs.Places.{Item, Bound, Tile, Place, Pending, RouterLink, RouterWaits, TileLink, TileWaits, Works, next, tile_named}
@@ -62,3 +62,11 @@ RouterLinksMove = (tables : List Table) (w : WorldView) (b : Board) (way : Port)
 -- if a packet stands somewhere, an event is enabled
 abbrev pub SomeEventIsEnabled : Type 0
 SomeEventIsEnabled = (tables : List Table) (w : WorldView) → CanFlow tables w → HasPacket w → IsEnabled w
+
+-- and so it is whatever the detector does, if its invariant holds
+abbrev pub SomeEventAtEachPhase : Type 0
+SomeEventAtEachPhase = (tables : List Table) (w : WorldView) → IsWatched tables w → HasPacket w → IsEnabled w
+
+-- an event is enabled at each moment, also where no packet stands: then a thread can make a step, or all parts are still
+abbrev pub SomeEventAtEachMoment : Type 0
+SomeEventAtEachMoment = (tables : List Table) (w : WorldView) → IsWatched tables w → ((p : ℕ) → MovesUnlessStill (slice_index_or w.parts p AbsentV)) → IsEnabled w

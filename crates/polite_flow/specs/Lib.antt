@@ -1,4 +1,5 @@
 pub mod Able
+pub mod Always
 pub mod Enabled
 pub mod Flow
 pub mod Flowing
@@ -13,6 +14,7 @@ pub mod Ranks
 pub mod Routers
 pub mod Sending
 pub mod Standing
+pub mod Threads
 pub mod Tiles
 pub mod Traffic
 pub mod World
