@@ -1,11 +1,11 @@
 -- What placed parts are when they all come back.
 use Rattle.std.proofs.Common.{◌≡◌, ◌∙◌, ◌+◌, ℕ, zero, suc, List, [], ◌∷◌, map, refl, sym, ap, subst, arith}
 use Rattle.std.specs.List.{All}
-use Rattle.std.proofs.lemmas.List.Elements.{All-nil, All-head, All-tail}
+use Rattle.std.proofs.lemmas.List.Elements.{All-nil, All-head, All-map, All-tail}
 use Rattle.tn_base.specs.declared.shape.ShapeNumbers.{ShapeNumbers}
 use Rattle.tn_stamp.specs.Merging.{ArePaired, entries_at}
 use Rattle.tn_rows.specs.Events.{IsWorld}
-use Rattle.tn_rows.specs.Stamped.{StandsAt, journals_of, machine, starts_of}
+use Rattle.tn_rows.specs.Stamped.{IsStamped, StampedView, StandsAt, journals_of, machine, starts_of}
 use Rattle.tn_stamped.specs.Placed.{AreAt, ComeBack, PlacedView, StandsHere, began, entries_of, stamped_of}
 
 same_at : (n : ShapeNumbers) (k : ℕ) (ps qs : List PlacedView) → map began qs ≡ map began ps → AreAt n k ps → AreAt n k qs
@@ -52,3 +52,13 @@ closed n shown all firsts same at world paired = record {
       let k : 0 + i ≡ i = omega arith in
       subst (λ j. All (StandsAt n j) (entries_at (journals_of (stamped_of shown)) i)) k s;
 }
+
+-- the stamps of the part's journal rise, and the part is its start after the journal
+abbrev pub HasStamps : PlacedView → Type 0
+HasStamps p = IsStamped p.stamped
+
+pub all_stamped : (ps : List PlacedView) → All HasStamps ps → All IsStamped (stamped_of ps)
+all_stamped ps all = All-map IsStamped (λ (p : PlacedView). p.stamped) ps all
+
+pub stamped_here : (p : PlacedView) (s : StampedView) → s ≡ p.stamped → IsStamped s → HasStamps p
+stamped_here p s same stamped = subst IsStamped same stamped

@@ -47,6 +47,17 @@ impl<L: Link> Model for Stamped<L> {
     } };
 }
 
+/// A part without its journal, and the journal.
+#[derive(Drop)]
+pub struct Pieces<L: Link> {
+    /// Where the part began.
+    pub start: Part<L>,
+    /// What happened on the part.
+    pub journal: Journal,
+    /// Where the part is.
+    pub present: Part<L>,
+}
+
 impl<L: Link> Stamped<L> {
     /// A part on which nothing happened yet.
     pub fn of(alloc: Global, part: Part<L>) -> Result<Stamped<L>, AllocError>
@@ -96,6 +107,19 @@ impl<L: Link> Stamped<L> {
     {
         let _entries = self.journal.len();
         &self.journal
+    }
+
+    /// The start, the journal and the present.
+    pub fn into_pieces(self) -> Pieces<L>
+        ensures start { result.start ≡ self.start }
+        ensures journal { result.journal.entries ≡ self.entries }
+        ensures present { result.present ≡ self.present }
+    {
+        Pieces {
+            start: self.start,
+            journal: self.journal,
+            present: self.present,
+        }
     }
 
     /// The stamp of the first final event of the journal, if there is one.

@@ -1,0 +1,26 @@
+-- The run that all parts of a machine made together.
+use Rattle.std.specs.Prelude.{Bool, List, is_some}
+use Rattle.std.specs.List.{list_any}
+use Rattle.tn_base.specs.declared.event.Event.{Event}
+use Rattle.tn_rows.specs.Cuts.{IsCut}
+use Rattle.tn_rows.specs.Runs.{Walk}
+use Rattle.tn_rows.specs.Stamped.{StampedView, first_final, journals_of}
+use Rattle.tn_rows.specs.WorldView.{WorldView}
+use Rattle.tn_stamp.specs.Merging.{IsMerge}
+
+-- an event of a part's journal is final
+abbrev pub has_ended : StampedView → Bool
+has_ended s = is_some (first_final s.entries s.start)
+
+abbrev pub some_ended : List StampedView → Bool
+some_ended parts = list_any has_ended parts
+
+-- these events can happen in turn
+abbrev pub CanHappen : WorldView → List Event → Type 0
+CanHappen start events = (end : WorldView) × Walk start events end
+
+-- the merge of the parts' journals, cut behind its first final event. If no event is final, it is the whole merge
+pub record IsHistory (parts : List StampedView) (start : WorldView) (history : List Event) (end : WorldView) : Type 0 where
+  pub whole : List Event
+  pub merged : IsMerge (journals_of parts) whole
+  pub cut : IsCut start whole history end
