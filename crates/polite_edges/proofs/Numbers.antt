@@ -15,7 +15,7 @@ use Rattle.polite_switch.specs.DeviceModel.{DeviceModel}
 use Rattle.polite_switch.specs.Table.{Dispatched, next_edge, recv_call, sent_key}
 use Rattle.tn_base.specs.declared.message.Letter.{Letter}
 use Rattle.tn_base.specs.Address.{has_thread}
-use Rattle.polite_edges.specs.Deeds.{Deed, Finished, Inited, Item, Lawful, SameItems, Send, Sent, Stepped, WasDue, added, deed_of, due, due_of, received, received_by, sent_by}
+use Rattle.polite_edges.specs.Deeds.{Deed, Finished, Inited, Item, Lawful, SameItems, PinSend, Sent, Stepped, WasDue, added, deed_of, due, due_of, received, received_by, sent_by}
 use Rattle.polite_edges.specs.Layout.{AllRouted, IsRouted, Layout, device_count, vertex_in, with_key}
 use Rattle.polite_edges.specs.VertexLog.{Arrival, EachArrived, EvenAtRest, arrival, arrived, number_at, owed, sends_of, vertex_log}
 use Rattle.polite_edges.proofs.Fine.{Fine, NodeFine}
@@ -93,7 +93,7 @@ and_false true = refl
 and_false false = refl
 
 -- a new send is not the packet of an item whose packet was sent
-label_kept : (g : Layout) (node : ℕ → Node) (s : Send) (deeds : List Deed) (i : Item) → s.number ≡ (node s.thread).sends → is_sent g node i ≡ true → relabel (Sent s ∷ deeds) i ≡ relabel deeds i
+label_kept : (g : Layout) (node : ℕ → Node) (s : PinSend) (deeds : List Deed) (i : Item) → s.number ≡ (node s.thread).sends → is_sent g node i ≡ true → relabel (Sent s ∷ deeds) i ≡ relabel deeds i
 label_kept g node s deeds i e h =
     ap (λ b. let a : Arrival = record { edge = i.edge; number = cond b (sends_of s.vertex deeds) (number_at i.origin i.number deeds); bytes = i.bytes } in a) apart
   where
@@ -107,7 +107,7 @@ label_kept g node s deeds i e h =
     ]
 
 -- a new send gets the next number of its vertex
-label_new : (g : Layout) (s : Send) (deeds : List Deed) (es : List ℕ) → map (relabel (Sent s ∷ deeds)) (map (due_of g s) es) ≡ map (arrival g (sends_of s.vertex deeds) s.bytes) es
+label_new : (g : Layout) (s : PinSend) (deeds : List Deed) (es : List ℕ) → map (relabel (Sent s ∷ deeds)) (map (due_of g s) es) ≡ map (arrival g (sends_of s.vertex deeds) s.bytes) es
 label_new g s deeds [] = refl
 label_new g s deeds (e ∷ es) =
     let here : number_at s.thread s.number (Sent s ∷ deeds) ≡ sends_of s.vertex deeds = ap (λ b. cond (b && s.number == s.number) (sends_of s.vertex deeds) (number_at s.thread s.number deeds)) (eq-eqb s.thread s.thread refl)
@@ -116,7 +116,7 @@ label_new g s deeds (e ∷ es) =
     ∙ ap (λ ys. arrival g (sends_of s.vertex deeds) s.bytes e ∷ ys) (label_new g s deeds es)
 
 -- the new items are sent
-new_sent : (g : Layout) (node : ℕ → Node) (s : Send) (es : List ℕ) → Has g s.thread → s.number < (node s.thread).sends → unsent g node (map (due_of g s) es) ≡ 0
+new_sent : (g : Layout) (node : ℕ → Node) (s : PinSend) (es : List ℕ) → Has g s.thread → s.number < (node s.thread).sends → unsent g node (map (due_of g s) es) ≡ 0
 new_sent g node s [] lt less = refl
 new_sent g node s (e ∷ es) lt less =
     let r = new_sent g node s es lt less in
@@ -126,18 +126,18 @@ new_sent g node s (e ∷ es) lt less =
     omega arith
 
 -- the packet of a send by a key has its number below the next one
-abbrev Counts : Option ℕ → Send → (ℕ → Node) → Type 0
+abbrev Counts : Option ℕ → PinSend → (ℕ → Node) → Type 0
 Counts None s node = Unit {0}
 Counts (Some key) s node = s.number < (node s.thread).sends
 
-new_items : (key : Option ℕ) (g : Layout) (node : ℕ → Node) (s : Send) → Has g s.thread → IsRouted key g s.thread (g.edges s.vertex s.pin) → Counts key s node → unsent g node (map (due_of g s) (g.edges s.vertex s.pin)) ≡ 0
+new_items : (key : Option ℕ) (g : Layout) (node : ℕ → Node) (s : PinSend) → Has g s.thread → IsRouted key g s.thread (g.edges s.vertex s.pin) → Counts key s node → unsent g node (map (due_of g s) (g.edges s.vertex s.pin)) ≡ 0
 new_items None g node s lt routed c = ap (λ es. unsent g node (map (due_of g s) es)) routed
 new_items (Some key) g node s lt routed c = new_sent g node s (g.edges s.vertex s.pin) lt c
 
 unsent_received : (g : Layout) (node : ℕ → Node) (deeds : List Deed) → WasDue g deeds → unsent g node (due g deeds) ≡ 0 → unsent g node (received deeds) ≡ 0
 unsent_received g node deeds w z = let e = w.each (λ i. not (is_sent g node i)) in omega arith
 
-sent_numbers : (key : Option ℕ) (g : Layout) (old new : ℕ → Node) (s : Send) (deeds : List Deed) → Numbers g old deeds → WasDue g deeds → Later g old new → Has g s.thread → s.number ≡ (old s.thread).sends
+sent_numbers : (key : Option ℕ) (g : Layout) (old new : ℕ → Node) (s : PinSend) (deeds : List Deed) → Numbers g old deeds → WasDue g deeds → Later g old new → Has g s.thread → s.number ≡ (old s.thread).sends
     → IsRouted key g s.thread (g.edges s.vertex s.pin) → Counts key s new → Numbers g new (Sent s ∷ deeds)
 sent_numbers key g old new s deeds b w later lt number routed c =
     let es = g.edges s.vertex s.pin in
@@ -188,9 +188,9 @@ send_row g d n old new deeds (Some call) once there f is e b w later sends =
     subst (λ (ds : List DeviceModel). IsRouted (key_at (device_at ds call.device) call.pin) g d.thread (g.edges (vertex_in ds call.device) call.pin)) (sym f.devices) (once.pin d.thread call.device call.pin there within) in
     sent_numbers (key_at (device_at n.switch.devices call.device) call.pin) g old new s deeds b w later there (ap (λ (x : Node). x.sends) is) routed (counts (key_at (device_at n.switch.devices call.device) call.pin) s sends refl)
   where
-    counts : (key : Option ℕ) (s : Send) → (new d.thread).sends ≡ sends_after (action.KeySend key) n.sends → s ≡ sent_by (doer d n) call → Counts key s new
+    counts : (key : Option ℕ) (s : PinSend) → (new d.thread).sends ≡ sends_after (action.KeySend key) n.sends → s ≡ sent_by (doer d n) call → Counts key s new
     counts None s h q = tt
-    counts (Some key) s h q = subst (λ (x : Send). x.number < (new x.thread).sends) (sym q) (omega arith)
+    counts (Some key) s h q = subst (λ (x : PinSend). x.number < (new x.thread).sends) (sym q) (omega arith)
 
 numbers_row : (r : Row) (g : Layout) (d : Dispatch) (n : Node) (old new : ℕ → Node) (deeds : List Deed) → AllRouted g → Has g d.thread → NodeFine g d.thread deeds n → n ≡ old d.thread
     → Numbers g old deeds → WasDue g deeds → Later g old new → (new d.thread).sends ≡ sends_after (out r d n).action n.sends

@@ -4,7 +4,7 @@ use Rattle.std.specs.Prelude.{count_by, map}
 use Rattle.std.proofs.lemmas.Bool.{cases_eq, eq-eqb, ne_eqb}
 use Rattle.std.proofs.lemmas.List.Sums.{sum_by-append, sum_by-cons}
 use Rattle.polite_edges.specs.Layout.{Layout, with_key}
-use Rattle.polite_edges.specs.Deeds.{Announced, Deed, Finished, Inited, Missed, Received, Send, Sent, Stepped}
+use Rattle.polite_edges.specs.Deeds.{Announced, Deed, Finished, Inited, Missed, Received, PinSend, Sent, Stepped}
 use Rattle.polite_edges.specs.VertexLog.{Arrival, EachArrived, EachOnceArrived, EdgesApart, EvenAtRest, HasSend, OnceAtRest, arrival, hits, owed, sends_of, times, vertex_log}
 
 abbrev one : Bool → ℕ
@@ -57,10 +57,10 @@ send_hits g e k test n bytes (x ∷ xs) =
     ]
 
 -- the numbers of a vertex's sends rise
-sends_here : (s : Send) (older : List Deed) → sends_of s.vertex (Sent s ∷ older) ≡ 1 + sends_of s.vertex older
+sends_here : (s : PinSend) (older : List Deed) → sends_of s.vertex (Sent s ∷ older) ≡ 1 + sends_of s.vertex older
 sends_here s older = ap (λ b. cond b (1 + sends_of s.vertex older) (sends_of s.vertex older)) (eq-eqb s.vertex s.vertex refl)
 
-sends_more : (u : ℕ) (s : Send) (older : List Deed) → sends_of u older ≤ sends_of u (Sent s ∷ older)
+sends_more : (u : ℕ) (s : PinSend) (older : List Deed) → sends_of u older ≤ sends_of u (Sent s ∷ older)
 sends_more u s older = at (s.vertex == u) where
   at : (b : Bool) → sends_of u older ≤ cond b (1 + sends_of u older) (sends_of u older)
   at true = omega arith
@@ -87,7 +87,7 @@ no_hit true zero h = refl
 no_hit true (suc m) h = absurd (let e = h (omega arith) in cc)
 no_hit false m h = refl
 
-missed : (g : Layout) (apart : EdgesApart g) (u pin k e : ℕ) (test : List ℕ → Bool) (s : Send) (older : List Deed) → 0 < times e (g.edges u pin) → k ≢ sends_of u older
+missed : (g : Layout) (apart : EdgesApart g) (u pin k e : ℕ) (test : List ℕ → Bool) (s : PinSend) (older : List Deed) → 0 < times e (g.edges u pin) → k ≢ sends_of u older
     → cond (counts g e k test (sends_of s.vertex older) s.bytes) (times e (g.edges s.vertex s.pin)) 0 ≡ 0
 missed g apart u pin k e test s older some ne =
     no_hit (counts g e k test (sends_of s.vertex older) s.bytes) (times e (g.edges s.vertex s.pin)) (λ here.

@@ -19,7 +19,7 @@ use Rattle.tn_base.specs.declared.message.Letter.{Letter}
 use Rattle.tn_slots.specs.Pool.{key_in}
 use Rattle.polite_routes.specs.Hops.{Hop}
 use Rattle.polite_edges.specs.Layout.{AllRouted, IsRouted, Layout, found as found_by, vertex_in, with_key}
-use Rattle.polite_edges.specs.Deeds.{Deed, Item, Send, added, deed_of, due, due_of, item_of, received, received_by, sent_by}
+use Rattle.polite_edges.specs.Deeds.{Deed, Item, PinSend, added, deed_of, due, due_of, item_of, received, received_by, sent_by}
 use Rattle.polite_edges.proofs.Fine.{HandFits, NodeFine, held, holding}
 use Rattle.polite_edges.proofs.Nodes.{Dispatch, FlightAfter, Has, Node, TakesSeen, brings, doer, flying, letter_at, letters, node_after, view_of}
 use Rattle.polite_edges.proofs.Rows.{out, taken_at}
@@ -61,7 +61,7 @@ flown w None g d n old new h = h w
 flown w (Some key) g d n old new h = h w
 
 -- what a send by a pin makes due is what its letters will bring
-sent_weighs : (w : Item → ℕ) (g : Layout) (key : Option ℕ) (s : Send) (old new : List Letter) → IsRouted key g s.thread (g.edges s.vertex s.pin) → Flown w g key s.thread s.number s.bytes old new
+sent_weighs : (w : Item → ℕ) (g : Layout) (key : Option ℕ) (s : PinSend) (old new : List Letter) → IsRouted key g s.thread (g.edges s.vertex s.pin) → Flown w g key s.thread s.number s.bytes old new
     → flying w g new ≡ sum_by w (map (due_of g s) (g.edges s.vertex s.pin)) + flying w g old
 sent_weighs w g None s old new routed f = let e = ap (λ es. sum_by w (map (due_of g s) es)) routed in omega arith
 sent_weighs w g (Some key) s old new routed f =

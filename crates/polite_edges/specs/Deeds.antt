@@ -8,28 +8,10 @@ use Rattle.polite_switch.specs.declared.course.Entry.TheVariants as entry
 use Rattle.polite_switch.specs.DeviceModel.{DeviceModel}
 use Rattle.tn_base.specs.declared.message.Letter.{Letter}
 use Rattle.tn_base.specs.Address.{has_thread}
+pub use Rattle.polite_edges.specs.declared.deed.Deed.{Deed}
+pub use Rattle.polite_edges.specs.declared.deed.Deed.TheVariants.{Announced, Finished, Inited, Missed, Received, Sent, Stepped}
+pub use Rattle.polite_edges.specs.declared.deed.PinSend.{PinSend}
 use Rattle.polite_edges.specs.Layout.{Layout, device_count, vertex_in, with_key}
-
--- the message that a vertex sends by a pin, once its send handler has returned. The number is that of the thread's packet, if the pin
--- has edges
-pub record Send : Type 0 where
-  pub thread : ℕ
-  pub device : ℕ
-  pub vertex : ℕ
-  pub pin : ℕ
-  pub number : ℕ
-  pub bytes : List ℕ
-
--- a handler of a device is called, with the device's vertex; a send handler has returned; or an announcement. A recv handler is called
--- with a letter, or its letter is missing
-pub data Deed : Type 0 where
-  Inited : (thread device vertex : ℕ) → Deed
-  Sent : Send → Deed
-  Received : (thread device edge : ℕ) (letter : Letter) → Deed
-  Missed : (thread device edge : ℕ) → Deed
-  Stepped : (thread device vertex : ℕ) → Deed
-  Finished : (thread device vertex : ℕ) → Deed
-  Announced : ℕ → Deed
 
 -- Which deed a dispatch is.
 
@@ -55,7 +37,7 @@ pub record Doer : Type 0 where
   pub message : List ℕ
   pub held : Option Letter
 
-abbrev pub sent_by : Doer → Call → Send
+abbrev pub sent_by : Doer → Call → PinSend
 sent_by x call = record { thread = x.thread; device = call.device; vertex = vertex_in x.devices call.device; pin = call.pin; number = x.sends; bytes = x.message }
 
 -- the deed of a dispatch: what it has the thread do, and the call that was begun last
@@ -86,7 +68,7 @@ pub record Item : Type 0 where
   pub bytes : List ℕ
 
 -- a send is due to each edge of its pin, with the edge's local key over the first two bytes
-abbrev pub due_of : Layout → Send → ℕ → Item
+abbrev pub due_of : Layout → PinSend → ℕ → Item
 due_of g s e = record { edge = e; origin = s.thread; number = s.number; bytes = with_key (g.local e) s.bytes }
 
 abbrev pub due : Layout → List Deed → List Item

@@ -2,15 +2,10 @@
 use Rattle.std.specs.Prelude.{ℕ, ◌+◌, ◌≡◌, ◌<◌, ◌≤◌, ◌⊎◌, ◌==◌, ◌&&◌, Bool, List, [], ◌∷◌, ◌++◌, count_by, map, if◌then◌else◌}
 use Rattle.graph_text.specs.declared.graph.EdgeRow.{EdgeRow}
 use Rattle.polite_routes.specs.Pins.{edges_of}
+pub use Rattle.polite_edges.specs.declared.deed.LogItem.{LogItem}
+pub use Rattle.polite_edges.specs.declared.deed.LogItem.TheVariants.{EdgeReceived, VertexFinished, VertexSent, VertexStepped}
 use Rattle.polite_edges.specs.Layout.{Layout, with_key}
 use Rattle.polite_edges.specs.Deeds.{Announced, Deed, Finished, Inited, Missed, Received, Sent, Stepped}
-
--- an item of the log. The number of a send is how often its vertex sent before; a receive has the number of its send
-pub data LogItem : Type 0 where
-  VertexSent : (vertex pin number : ℕ) (bytes : List ℕ) → LogItem
-  EdgeReceived : (edge number : ℕ) (bytes : List ℕ) → LogItem
-  VertexStepped : (vertex : ℕ) → LogItem
-  VertexFinished : (vertex : ℕ) → LogItem
 
 -- how often vertex u has sent
 abbrev pub sends_of : ℕ → List Deed → ℕ

@@ -2,4 +2,5 @@
 //! runs.
 #![tactic(auto)]
 
+pub mod deed;
 pub mod laws;

@@ -30,7 +30,7 @@ all_flat : {X : Type 0} (P : X → Type 0) (f : ℕ → List X) (i count : ℕ) 
 all_flat P f i zero h = tt
 all_flat P f i (suc count) h = all_append P (f i) (flat_map f (range_with_len (i + 1) count)) (h i) (all_flat P f (i + 1) count h)
 
-all_set : {X : Type 0} (P : X → Type 0) (xs : List X) (i : ℕ) (x : X) → AllByRecursion P xs → P x → AllByRecursion P (slice_set xs i x)
+pub all_set : {X : Type 0} (P : X → Type 0) (xs : List X) (i : ℕ) (x : X) → AllByRecursion P xs → P x → AllByRecursion P (slice_set xs i x)
 all_set P [] i x a p = tt
 all_set P (y ∷ ys) zero x a p = (p, a.1)
 all_set P (y ∷ ys) (suc i) x a p = (a.0, all_set P ys i x a.1 p)

@@ -66,7 +66,7 @@ took_fits P capacity [] true high all h = cc h
 took_fits P capacity (k ∷ ks) true high all h = record { link = record { packets = ks; capacity = capacity }; is = sym (some_is _ high h); fits = all.1 }
 took_fits P capacity packets false high all h = cc h
 
-first_fits : (P : Packet → Type 0) (packets : List Packet) (k : Packet) → AllByRecursion P packets → first_in packets ≡ Some k → P k
+pub first_fits : (P : Packet → Type 0) (packets : List Packet) (k : Packet) → AllByRecursion P packets → first_in packets ≡ Some k → P k
 first_fits P [] k all e = cc e
 first_fits P (x ∷ xs) k all e = subst P (some_is x k e) all.0
 

@@ -105,7 +105,7 @@ copy_fits n tables b side p (Rr dir key) g f =
 copy_fits n tables b side p (Mrm tile key mask) g f = sent_fits n tables b port.Down (record p { dest = copy_for b (Mrm tile key mask); bytes = keyed 2 key p.bytes }) (steps n tables (Works b side) (RouterWaits b port.Down) (Due (Mrm tile key mask)) g f refl).fits.0
 copy_fits n tables b side p (Ind key) g f = absurd f.straight
 
-first_is : (rs : List RouteRec) (r : RouteRec) → slice_get rs 0 ≡ Some r → rs ≡ r ∷ drop 1 rs
+pub first_is : (rs : List RouteRec) (r : RouteRec) → slice_get rs 0 ≡ Some r → rs ≡ r ∷ drop 1 rs
 first_is [] r e = cc e
 first_is (x ∷ rs) r e = let is : x ≡ r = cc e in ap (λ y. y ∷ rs) is
 

@@ -40,7 +40,7 @@ use Rattle.polite_flow.proofs.Process as routers
 
 -- ---- lists of parts
 
-placed : (P : ℕ → PartView → Type 0) (parts : List PartView) (p q : ℕ) (new : PartView) → p < length parts → ((r : ℕ) → P r (get_or parts r AbsentV)) → P p new → P q (get_or (set parts p new) q AbsentV)
+pub placed : (P : ℕ → PartView → Type 0) (parts : List PartView) (p q : ℕ) (new : PartView) → p < length parts → ((r : ℕ) → P r (get_or parts r AbsentV)) → P p new → P q (get_or (set parts p new) q AbsentV)
 placed P parts p q new within all here = elim (cases_eq q p) [
   | inl e ↦ subst (P q) (sym (get_or-set_at parts p q new AbsentV e within)) (subst (λ i. P i new) (sym e) here)
   | inr ne ↦ subst (P q) (sym (get_or-set_other parts p q new AbsentV ne)) (all q)

@@ -1,5 +1,9 @@
+pub mod Able
+pub mod Enabled
 pub mod Flow
+pub mod Flowing
 pub mod Fresh
+pub mod Graphs
 pub mod Law
 pub mod Machine
 pub mod Meetings
@@ -7,5 +11,8 @@ pub mod OnWay
 pub mod Places
 pub mod Ranks
 pub mod Routers
+pub mod Sending
+pub mod Standing
 pub mod Tiles
+pub mod Traffic
 pub mod World

@@ -6,11 +6,15 @@ ghost use Rattle.polite_place.specs.Outs.{outs_of};
 ghost use Rattle.polite_place.specs.Seats.{placed};
 ghost use Rattle.polite_routes.specs.declared.routes.RouteSet.{RouteSet};
 ghost use Rattle.polite_routes.specs.Answer.{routes_of};
+ghost use Rattle.polite_flow.specs.Flowing.{EventsKeepFlowing, StartsAreFlowing, WalksKeepFlowing};
 ghost use Rattle.polite_flow.specs.Fresh.{FreshPartsAreOnWay};
+ghost use Rattle.polite_flow.specs.Graphs.{GraphsStartFlowing, WalksOfGraphsFlow};
 ghost use Rattle.polite_flow.specs.Machine.{LinksLeadOn};
 ghost use Rattle.polite_flow.specs.Meetings.{RoutersArrive, RoutersDepart, TilesArrive, TilesDepart};
 ghost use Rattle.polite_flow.specs.Routers.{RoutersGiveWays, RoutersKeepWays};
+ghost use Rattle.polite_flow.specs.Sending.{EventsKeepSenders, TurnsOfSendersFit, WalksOfSendersFlow};
 ghost use Rattle.polite_flow.specs.Tiles.{TilesGiveWays, TilesKeepWays};
+ghost use Rattle.polite_flow.specs.Traffic.{ArrivalsKeepWays, DeparturesKeepWays, SuchHostsPutNothing};
 ghost use Rattle.polite_flow.specs.World.{EventsKeepWays};
 ghost use Rattle.polite_flow.specs.Law.{AreRoutes, EachChangeKeepsWays, NoKeyIsBad, RanksFall, SomePacketIsFree, StraightKeysFit};
 
@@ -80,4 +84,35 @@ pub fn law_fresh()
 /// takes. A turn does so if what the turn leaves to be sent is on its way. The law says nothing of departures and arrivals.
 pub fn law_events()
     ensures { EventsKeepWays }
+{}
+
+/// A packet that departs from a part of a whole machine, or arrives at a part, keeps all packets on their way. A host without messages
+/// puts no packet on its link.
+pub fn law_traffic()
+    ensures depart { DeparturesKeepWays }
+    ensures arrive { ArrivalsKeepWays }
+    ensures host { SuchHostsPutNothing }
+{}
+
+/// At its start a machine with the tables of a graph flows: all its packets are on their way, its routers are ready, and its host has no
+/// message to send. Each event keeps the machine flowing, and so does each walk, if what each turn leaves to be sent is on its way.
+pub fn law_flowing()
+    ensures start { StartsAreFlowing }
+    ensures event { EventsKeepFlowing }
+    ensures walk { WalksKeepFlowing }
+{}
+
+/// If each thread of a machine has firmware, and each key of its softswitch is of packets on their way, each event leaves the threads such
+/// senders. What their turns leave to be sent is on its way. So along each walk from such a start the machine flows.
+pub fn law_senders()
+    ensures event { EventsKeepSenders }
+    ensures turn { TurnsOfSendersFit }
+    ensures walk { WalksOfSendersFlow }
+{}
+
+/// The machine of a graph, at its start, flows, and its threads are senders, if the tables name the four directions alone and packets by
+/// the keys of the threads' pins are on their way. So each walk from that start keeps all packets on their way.
+pub fn law_graphs()
+    ensures start { GraphsStartFlowing }
+    ensures walk { WalksOfGraphsFlow }
 {}

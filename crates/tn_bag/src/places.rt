@@ -47,7 +47,7 @@ pub fn standing<L: Link>(
 }
 
 /// The letters on a part.
-fn push_part<L: Link>(
+pub fn push_part<L: Link>(
     all: &mut Vec<(Place, Letter)>,
     alloc: Global,
     world: &World<L>,

@@ -55,7 +55,7 @@ pub fn bag_of<L: Link>(
 }
 
 /// The steps that an event is.
-fn push_event<L: Link>(
+pub fn push_event<L: Link>(
     all: &mut Vec<BagStep>,
     alloc: Global,
     world: &World<L>,
