@@ -1,3 +1,4 @@
 pub mod Apart
 pub mod Elsewhere
 pub mod Follow
+pub mod Parts
