@@ -1,2 +1,4 @@
+mod Laying
 mod Rooms
 mod Slices
+mod Standing

@@ -5,6 +5,7 @@
 //! Read `making` first, then `work`, then `worker`.
 #![tactic(auto)]
 
+pub mod crew;
 pub mod making;
 #[cfg(test)]
 mod note_tests;

@@ -8,7 +8,7 @@ use Rattle.tn_rows.specs.Events.{IsWorld}
 use Rattle.tn_rows.specs.Stamped.{IsStamped, StampedView, StandsAt, journals_of, machine, starts_of}
 use Rattle.tn_stamped.specs.Placed.{AreAt, ComeBack, PlacedView, StandsHere, began, entries_of, stamped_of}
 
-same_at : (n : ShapeNumbers) (k : ℕ) (ps qs : List PlacedView) → map began qs ≡ map began ps → AreAt n k ps → AreAt n k qs
+pub same_at : (n : ShapeNumbers) (k : ℕ) (ps qs : List PlacedView) → map began qs ≡ map began ps → AreAt n k ps → AreAt n k qs
 same_at n k [] [] e a = tt
 same_at n k [] (q ∷ qs) e a = cc
 same_at n k (p ∷ ps) [] e a = cc
@@ -17,7 +17,7 @@ same_at n k (p ∷ ps) (q ∷ qs) e a =
     let rest : map began qs ≡ map began ps = cc in
     (ap (λ (o : PlacedView). o.shape) head ∙ a.0, ap (λ (o : PlacedView). o.place) head ∙ a.1, same_at n (k + 1) ps qs rest a.2)
 
-same_starts : (ps qs : List PlacedView) → map began qs ≡ map began ps → starts_of (stamped_of qs) ≡ starts_of (stamped_of ps)
+pub same_starts : (ps qs : List PlacedView) → map began qs ≡ map began ps → starts_of (stamped_of qs) ≡ starts_of (stamped_of ps)
 same_starts [] [] e = refl
 same_starts [] (q ∷ qs) e = cc
 same_starts (p ∷ ps) [] e = cc

@@ -1,0 +1,197 @@
+//! A machine on whose parts workers in threads make events.
+
+ghost use Rattle.std.specs.Prelude.{◌≡◌, ◌↔◌, ◌<◌, ◌^◌, IfOk, IsTrue, MatchOption, length, map};
+ghost use Rattle.std.specs.List.{All, list_any};
+ghost use Rattle.std.specs.declared.result.Result.TheVariants.{Ok};
+ghost use Rattle.tn_crew.specs.declared.crew.CrewEnd.TheVariants.{Stop};
+ghost use Rattle.tn_base.specs.Parts.{kind_of};
+ghost use Rattle.tn_crew.specs.Crew.{AreFresh, IsCrew, IsFresh, has_ended, histories_of, no_entries, present_of, start_of};
+ghost use Rattle.tn_part.specs.First.{First};
+ghost use Rattle.tn_rows.specs.Events.{FitsKind, IsWorld, Rests};
+ghost use Rattle.tn_rows.specs.Listed.{listed};
+ghost use Rattle.tn_rows.specs.Stamped.{machine};
+ghost use Rattle.tn_stamped.specs.Placed.{FitsHere, began};
+
+use crate::team::{Team, run_team};
+use std::alloc::{AllocError, Global};
+use std::marker::Model;
+use std::mem;
+use std::sync::Wait;
+use std::thread::Threads;
+use tn_base::event::Event;
+use tn_base::ids::PartId;
+use tn_base::shape::Shape;
+use tn_io::gate::Gate;
+use tn_link::plain::PlainLink;
+use tn_part::enabled::first_enabled;
+use tn_part::has_parts::HasParts;
+use tn_part::part::Part;
+use tn_part::site::Sites;
+use tn_stamped::placed::Placed;
+use tn_stamped::stamped::Stamped;
+use tn_world::world::World;
+
+/// How workers leave the parts.
+#[derive(Clone, Copy, PartialEq, Eq, Debug)]
+pub enum CrewEnd {
+    /// A journal has a final event.
+    Stop,
+    /// No journal has a final event, and no worker found anything left to try.
+    Resting,
+}
+
+/// The parts of a machine, each at its place with its journal, and what the shape says of each place.
+#[derive(Drop)]
+pub struct Crew {
+    sites: Sites,
+    parts: Vec<Placed<PlainLink>>,
+}
+
+impl Model for Crew {
+    ghost use Rattle.tn_crew.specs.Crew.{CrewView, IsCrew};
+
+    ghost Value = { CrewView };
+
+    ghost view = { λ c. record { shape = c.sites; parts = c.parts.items } };
+
+    ghost invariant = { λ c. IsCrew (record { shape = c.sites; parts = c.parts.items }) };
+}
+
+/// A part of a machine at its place, with an empty journal.
+fn laid(
+    alloc: Global,
+    shape: Shape,
+    place: PartId,
+    part: Part<PlainLink>,
+) -> Result<Placed<PlainLink>, AllocError>
+    requires { FitsKind shape (kind_of shape place.0) part }
+    ensures { IfOk result (λ p. IsFresh shape place.0 part p) }
+{
+    let stamped = Stamped::of(alloc, part)?;
+    Ok(Placed::of(shape, place, stamped))
+}
+
+/// The parts of a machine at their places, with empty journals.
+fn laid_all(
+    alloc: Global,
+    shape: Shape,
+    mut parts: Vec<Part<PlainLink>>,
+) -> Result<Vec<Placed<PlainLink>>, AllocError>
+    requires world { IsWorld (machine shape parts.items) }
+    requires few { length parts.items < 2 ^ 32 }
+    ensures { IfOk result (λ all. AreFresh shape parts.items all.items) }
+{
+    let mut all = Vec::with_capacity(alloc, parts.len())?;
+    parts.reverse();
+    while let Some(part) = parts.pop() {
+        let place = PartId(all.len() as u32);
+        all.push(laid(alloc, shape, place, part)?)?;
+    }
+    Ok(all)
+}
+
+/// Whether a journal has a final event.
+fn some_ended(parts: &[Placed<PlainLink>]) -> bool
+    ensures { result ≡ list_any has_ended parts.now }
+{
+    parts.iter().any(|part| part.stamped().ended())
+}
+
+/// How workers left the parts, or that memory or a stamp was refused before a final event.
+fn end_of(ended: bool, refused: bool) -> Result<CrewEnd, AllocError>
+    ensures { (result ≡ Ok Stop) ↔ IsTrue ended }
+{
+    if ended {
+        return Ok(CrewEnd::Stop);
+    }
+    if refused {
+        return Err(AllocError);
+    }
+    Ok(CrewEnd::Resting)
+}
+
+/// Each part is what the shape names at its place.
+fn law_fits(parts: &[Placed<PlainLink>])
+    ensures { All FitsHere parts.now }
+{
+    for part in parts {
+        let _stamped = part.stamped();
+    }
+}
+
+impl Crew {
+    /// The parts of a machine, on which nothing happened yet.
+    pub fn of(alloc: Global, world: World<PlainLink>) -> Result<Crew, AllocError>
+        ensures start { IfOk result (λ c. start_of c ≡ world) }
+        ensures present { IfOk result (λ c. present_of c ≡ world) }
+        ensures entries { IfOk result (λ c. histories_of c ≡ no_entries world.parts) }
+    {
+        let shape = *world.shape();
+        let sites = Sites::of(alloc, &shape)?;
+        let _count = sites.part_count();
+        let parts = laid_all(alloc, shape, world.into_parts())?;
+        Ok(Crew { sites, parts })
+    }
+
+    /// The parts, in order.
+    pub fn parts(&self) -> &[Placed<PlainLink>]
+        ensures parts { result.now ≡ self.now.parts }
+        ensures crew { IsCrew self.now }
+    {
+        let _sites = &self.sites;
+        &self.parts
+    }
+
+    /// The parts, in order, without what the shape says of each place.
+    pub fn into_parts(self) -> Vec<Placed<PlainLink>>
+        ensures parts { result.items ≡ self.parts }
+        ensures crew { IsCrew self }
+    {
+        self.parts
+    }
+
+    /// Workers make events until nothing is left to try, a journal has a final event, or memory or a stamp is refused.
+    pub fn go<H: Threads + Wait + Sync, G: Gate + Sync>(
+        &mut self,
+        rt: &H,
+        alloc: Global,
+        workers: u32,
+        gate: &G,
+    ) -> Result<CrewEnd, AllocError>
+        requires some { 0 < workers }
+        requires few { workers < 65 }
+        ensures shape { self.new.shape ≡ self.old.shape }
+        ensures starts { map began self.new.parts ≡ map began self.old.parts }
+        ensures stops { (result ≡ Ok Stop) ↔ IsTrue (list_any has_ended self.new.parts) }
+    {
+        let _count = self.sites.part_count();
+        let parts = mem::replace(&mut self.parts, Vec::new(alloc));
+        let Team { parts, refused } = run_team(rt, alloc, parts, &self.sites, workers, gate);
+        self.parts = parts;
+        end_of(some_ended(&self.parts), refused)
+    }
+
+    /// The first event in their order that is enabled on the parts as they are now.
+    pub fn enabled(&self) -> Option<Event>
+        ensures { MatchOption result (Rests (present_of self.now)) (First (present_of self.now) (listed self.now.shape)) }
+    {
+        law_fits(&self.parts);
+        first_enabled(self)
+    }
+}
+
+impl HasParts for Crew {
+    type Link = PlainLink;
+
+    ghost use Rattle.tn_crew.specs.Crew.{present_of};
+
+    ghost world = { present_of };
+
+    fn sites(&self) -> &Sites {
+        &self.sites
+    }
+
+    fn part(&self, p: PartId) -> &Part<PlainLink> {
+        self.parts[p.0 as usize].stamped().part()
+    }
+}
