@@ -1,10 +1,11 @@
 -- A machine whose parts keep where they began and what happened on them.
-use Rattle.std.specs.Prelude.{ℕ, ◌≡◌, Bool, List, [], map, is_some}
+use Rattle.std.specs.Prelude.{ℕ, ◌≡◌, ◌⊎◌, Bool, true, List, [], map}
 use Rattle.tn_base.specs.declared.shape.ShapeNumbers.{ShapeNumbers}
-use Rattle.tn_rows.specs.Events.{IsWorld}
+use Rattle.tn_rows.specs.Events.{IsWorld, Rests}
 use Rattle.tn_rows.specs.PartView.{PartView}
-use Rattle.tn_rows.specs.Stamped.{first_final, machine, presents_of, starts_of}
+use Rattle.tn_rows.specs.Stamped.{machine, presents_of, starts_of}
 use Rattle.tn_rows.specs.WorldView.{WorldView}
+use Rattle.tn_settle.specs.Settles.{some_ended}
 use Rattle.tn_stamp.specs.declared.entry.Entry.{Entry}
 use Rattle.tn_stamp.specs.Merging.{ArePaired}
 use Rattle.tn_stamped.specs.Placed.{AreAt, PlacedView, entries_of, stamped_of}
@@ -51,6 +52,10 @@ pub record AreFresh (n : ShapeNumbers) (parts : List PartView) (ps : List Placed
   pub presents : presents_of (stamped_of ps) ≡ parts
   pub entries : map entries_of ps ≡ no_entries parts
 
--- a journal has a final event: its part tells
-abbrev pub has_ended : PlacedView → Bool
-has_ended p = is_some (first_final p.stamped.entries p.stamped.start)
+-- a journal has a final event
+abbrev pub has_stopped : CrewView → Bool
+has_stopped c = some_ended (stamped_of c.parts)
+
+-- nothing is left to do: a journal has a final event, or no event is enabled on the parts as they are now
+abbrev pub IsFinished : CrewView → Type 0
+IsFinished c = (has_stopped c ≡ true) ⊎ Rests (present_of c)

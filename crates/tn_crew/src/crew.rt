@@ -1,16 +1,21 @@
 //! A machine on whose parts workers in threads make events.
 
-ghost use Rattle.std.specs.Prelude.{◌≡◌, ◌↔◌, ◌<◌, ◌^◌, IfOk, IsTrue, MatchOption, length, map};
-ghost use Rattle.std.specs.List.{All, list_any};
+ghost use Rattle.std.specs.Prelude.{◌≡◌, ◌↔◌, ◌⊎◌, ◌<◌, ◌^◌, IfOk, IsTrue, MatchOption, false, is_some, length, map, true};
+ghost use Rattle.std.specs.List.{All};
 ghost use Rattle.std.specs.declared.result.Result.TheVariants.{Ok};
-ghost use Rattle.tn_crew.specs.declared.crew.CrewEnd.TheVariants.{Stop};
+ghost use Rattle.tn_crew.specs.declared.crew.CrewEnd.TheVariants.{Resting, Stop};
 ghost use Rattle.tn_base.specs.Parts.{kind_of};
-ghost use Rattle.tn_crew.specs.Crew.{AreFresh, IsCrew, IsFresh, has_ended, histories_of, no_entries, present_of, start_of};
+ghost use Rattle.tn_crew.specs.Crew.{AreFresh, IsCrew, IsFresh, has_stopped, histories_of, no_entries, present_of, start_of};
 ghost use Rattle.tn_part.specs.First.{First};
+ghost use Rattle.tn_rows.specs.Cuts.{IsOver};
+ghost use Rattle.tn_rows.specs.Ends.{final_after, last_of};
 ghost use Rattle.tn_rows.specs.Events.{FitsKind, IsWorld, Rests};
 ghost use Rattle.tn_rows.specs.Listed.{listed};
-ghost use Rattle.tn_rows.specs.Stamped.{machine};
-ghost use Rattle.tn_stamped.specs.Placed.{FitsHere, began};
+ghost use Rattle.tn_rows.specs.Runs.{Run};
+ghost use Rattle.tn_rows.specs.Stamped.{journals_of, machine};
+ghost use Rattle.tn_settle.specs.Settles.{IsHistory, some_ended};
+ghost use Rattle.tn_stamp.specs.Merging.{IsMerge};
+ghost use Rattle.tn_stamped.specs.Placed.{FitsHere, began, stamped_of};
 
 use crate::team::{Team, run_team};
 use std::alloc::{AllocError, Global};
@@ -27,6 +32,7 @@ use tn_part::enabled::first_enabled;
 use tn_part::has_parts::HasParts;
 use tn_part::part::Part;
 use tn_part::site::Sites;
+use tn_settle::settle::{Settled, settle};
 use tn_stamped::placed::Placed;
 use tn_stamped::stamped::Stamped;
 use tn_world::world::World;
@@ -91,15 +97,16 @@ fn laid_all(
 }
 
 /// Whether a journal has a final event.
-fn some_ended(parts: &[Placed<PlainLink>]) -> bool
-    ensures { result ≡ list_any has_ended parts.now }
+fn has_stopped(parts: &[Placed<PlainLink>]) -> bool
+    ensures { result ≡ some_ended (stamped_of parts.now) }
 {
     parts.iter().any(|part| part.stamped().ended())
 }
 
 /// How workers left the parts, or that memory or a stamp was refused before a final event.
 fn end_of(ended: bool, refused: bool) -> Result<CrewEnd, AllocError>
-    ensures { (result ≡ Ok Stop) ↔ IsTrue ended }
+    ensures stops { (result ≡ Ok Stop) ↔ IsTrue ended }
+    ensures rests { (result ≡ Ok Resting) ↔ ((ended ≡ false) × (refused ≡ false)) }
 {
     if ended {
         return Ok(CrewEnd::Stop);
@@ -162,13 +169,13 @@ impl Crew {
         requires few { workers < 65 }
         ensures shape { self.new.shape ≡ self.old.shape }
         ensures starts { map began self.new.parts ≡ map began self.old.parts }
-        ensures stops { (result ≡ Ok Stop) ↔ IsTrue (list_any has_ended self.new.parts) }
+        ensures stops { (result ≡ Ok Stop) ↔ IsTrue (has_stopped self.new) }
     {
         let _count = self.sites.part_count();
         let parts = mem::replace(&mut self.parts, Vec::new(alloc));
         let Team { parts, refused } = run_team(rt, alloc, parts, &self.sites, workers, gate);
         self.parts = parts;
-        end_of(some_ended(&self.parts), refused)
+        end_of(has_stopped(&self.parts), refused)
     }
 
     /// The first event in their order that is enabled on the parts as they are now.
@@ -177,6 +184,19 @@ impl Crew {
     {
         law_fits(&self.parts);
         first_enabled(self)
+    }
+
+    /// The run that the parts made: the merge of their journals, cut behind its first final event.
+    pub fn settle(self, alloc: Global) -> Result<Settled<PlainLink>, AllocError>
+        ensures start { IfOk result (λ s. s.start ≡ start_of self) }
+        ensures run { IfOk result (λ s. Run s.start s.history.items s.end) }
+        ensures history { IfOk result (λ s. IsHistory (stamped_of self.parts) s.start s.history.items s.end) }
+        ensures ended { IfOk result (λ s. is_some (final_after (last_of s.history.items) s.end) ≡ has_stopped self) }
+        ensures whole { IfOk result (λ s. has_stopped self ≡ false → IsMerge (journals_of (stamped_of self.parts)) s.history.items × (s.end ≡ present_of self)) }
+        ensures over { IfOk result (λ s. (has_stopped self ≡ true) ⊎ Rests (present_of self) → IsOver s.history.items s.end) }
+    {
+        let shape = *self.sites.shape();
+        settle(alloc, shape, self.parts)
     }
 }
 

@@ -2,7 +2,7 @@
 //! has no turn between two events. Notes by which workers tell each other which stops may have something to do are advice: a lost note
 //! costs time, and no event is lost. A stop is a part that is no link.
 //!
-//! Read `making` first, then `work`, then `worker`.
+//! Read `making` first, then `work`, `worker` and `team`, then `crew` and `run`.
 #![tactic(auto)]
 
 pub mod crew;
@@ -10,6 +10,7 @@ pub mod making;
 #[cfg(test)]
 mod note_tests;
 pub mod notes;
+pub mod run;
 pub mod signals;
 pub mod team;
 pub mod work;
