@@ -1,14 +1,15 @@
 -- Parts at their places stay a crew, and are a machine now.
-use Rattle.std.proofs.Common.{◌≡◌, ◌∙◌, ◌<◌, ◌+◌, ℕ, zero, suc, List, [], ◌∷◌, length, map, slice_index_or, sym, subst, arith}
-use Rattle.std.specs.List.{All}
+use Rattle.std.proofs.Common.{◌≡◌, ◌∙◌, ◌<◌, ◌+◌, ◌||◌, ℕ, zero, suc, Bool, List, [], ◌∷◌, is_some, length, map, slice_index_or, refl, sym, ap, subst, arith}
+use Rattle.std.specs.List.{All, list_any}
 use Rattle.std.proofs.lemmas.List.Elements.{All-head, All-tail}
 use Rattle.tn_base.specs.declared.shape.ShapeNumbers.{ShapeNumbers}
 use Rattle.tn_base.specs.Parts.{kind_of, part_count}
 use Rattle.tn_crew.proofs.Laying.{count_presents, count_starts}
-use Rattle.tn_crew.specs.Crew.{AreFresh, CrewView, IsCrew, present_of}
+use Rattle.tn_crew.specs.Crew.{AreFresh, CrewView, IsCrew, present_of, start_of}
 use Rattle.tn_rows.specs.Events.{FitsKind, IsWorld}
 use Rattle.tn_rows.specs.PartView.{AbsentV, PartView}
-use Rattle.tn_rows.specs.Stamped.{machine, presents_of, starts_of}
+use Rattle.tn_rows.specs.Stamped.{first_final, machine, presents_of, starts_of}
+use Rattle.tn_settle.specs.Settles.{some_ended}
 use Rattle.tn_stamp.specs.Merging.{ArePaired}
 use Rattle.tn_stamped.proofs.Closing.{same_at, same_starts}
 use Rattle.tn_stamped.specs.Placed.{AreAt, FitsHere, PlacedView, began, entries_of, stamped_of}
@@ -29,6 +30,15 @@ crew_stays n ps qs crew kept = record {
   world = subst (λ vs. IsWorld (machine n vs)) (sym (same_starts ps qs kept.starts)) crew.world;
   paired = kept.paired;
 }
+
+-- what the parts began as stays
+pub start_stays : (n : ShapeNumbers) (ps qs : List PlacedView) → map began qs ≡ map began ps → start_of (record { shape = n; parts = qs }) ≡ start_of (record { shape = n; parts = ps })
+start_stays n ps qs same = ap (machine n) (same_starts ps qs same)
+
+-- each part tells whether its journal has a final event
+pub stopped_by : (ps : List PlacedView) → list_any (λ (p : PlacedView). is_some (first_final p.stamped.entries p.stamped.start)) ps ≡ some_ended (stamped_of ps)
+stopped_by [] = refl
+stopped_by (p ∷ ps) = ap (λ (b : Bool). is_some (first_final p.stamped.entries p.stamped.start) || b) (stopped_by ps)
 
 pub crew_count : (c : CrewView) → IsCrew c → length c.parts ≡ part_count c.shape
 crew_count c crew = sym (count_starts c.parts) ∙ crew.world.count

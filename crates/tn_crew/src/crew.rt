@@ -1,6 +1,6 @@
 //! A machine on whose parts workers in threads make events.
 
-ghost use Rattle.std.specs.Prelude.{◌≡◌, ◌↔◌, ◌⊎◌, ◌<◌, ◌^◌, IfOk, IsTrue, MatchOption, false, is_some, length, map, true};
+ghost use Rattle.std.specs.Prelude.{◌≡◌, ◌↔◌, ◌⊎◌, ◌<◌, ◌^◌, IfOk, IsTrue, MatchOption, false, is_some, length, true};
 ghost use Rattle.std.specs.List.{All};
 ghost use Rattle.std.specs.declared.result.Result.TheVariants.{Ok};
 ghost use Rattle.tn_crew.specs.declared.crew.CrewEnd.TheVariants.{Resting, Stop};
@@ -15,7 +15,7 @@ ghost use Rattle.tn_rows.specs.Runs.{Run};
 ghost use Rattle.tn_rows.specs.Stamped.{journals_of, machine};
 ghost use Rattle.tn_settle.specs.Settles.{IsHistory, some_ended};
 ghost use Rattle.tn_stamp.specs.Merging.{IsMerge};
-ghost use Rattle.tn_stamped.specs.Placed.{FitsHere, began, stamped_of};
+ghost use Rattle.tn_stamped.specs.Placed.{FitsHere, stamped_of};
 
 use crate::team::{Team, run_team};
 use std::alloc::{AllocError, Global};
@@ -167,8 +167,7 @@ impl Crew {
     ) -> Result<CrewEnd, AllocError>
         requires some { 0 < workers }
         requires few { workers < 65 }
-        ensures shape { self.new.shape ≡ self.old.shape }
-        ensures starts { map began self.new.parts ≡ map began self.old.parts }
+        ensures start { start_of self.new ≡ start_of self.old }
         ensures stops { (result ≡ Ok Stop) ↔ IsTrue (has_stopped self.new) }
     {
         let _count = self.sites.part_count();
