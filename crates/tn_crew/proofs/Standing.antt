@@ -1,5 +1,5 @@
 -- Parts at their places stay a crew, and are a machine now.
-use Rattle.std.proofs.Common.{◌≡◌, ◌∙◌, ◌<◌, ◌+◌, ◌||◌, ℕ, zero, suc, Bool, List, [], ◌∷◌, is_some, length, map, slice_index_or, refl, sym, ap, subst, arith}
+use Rattle.std.proofs.Common.{◌≡◌, ◌∙◌, ◌<◌, ◌+◌, ◌||◌, ℕ, zero, suc, Bool, List, [], ◌∷◌, Some, get_or, is_some, length, map, slice_get, slice_index_or, refl, sym, ap, subst, arith}
 use Rattle.std.specs.List.{All, list_any}
 use Rattle.std.proofs.lemmas.List.Elements.{All-head, All-tail}
 use Rattle.tn_base.specs.declared.shape.ShapeNumbers.{ShapeNumbers}
@@ -66,3 +66,9 @@ present_world c crew all = record {
       let same : 0 + p ≡ p = omega arith in
       subst (λ j. FitsKind c.shape (kind_of c.shape j) (slice_index_or (presents_of (stamped_of c.parts)) p AbsentV)) same fits;
 }
+
+-- the present part at a place
+pub present_at : (ps : List PlacedView) (i : ℕ) (p : PlacedView) → i < length ps → get_or ps i p ≡ p → slice_get (presents_of (stamped_of ps)) i ≡ Some p.stamped.present
+present_at [] i p l e = absurd (omega arith)
+present_at (q ∷ qs) zero p l e = ap (λ (u : PlacedView). Some u.stamped.present) e
+present_at (q ∷ qs) (suc i) p l e = present_at qs i p (omega arith) e

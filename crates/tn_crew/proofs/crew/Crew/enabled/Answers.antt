@@ -1,5 +1,9 @@
+use Rattle.std.specs.List.{All}
 use Rattle.tn_crew.proofs.Standing.{present_world}
 use Rattle.tn_crew.proofs.crew.Crew.enabled.Goals as goal
+use Rattle.tn_stamped.specs.Placed.{FitsHere}
 
 pub first_enabled-requires : goal.first_enabled-requires
-first_enabled-requires c = rw (← c.self.view_is) (present_world (record { shape = c.self.inside.sites; parts = c.self.inside.parts.items }) c.self.invariant c.law_fits.ensures)
+first_enabled-requires c =
+    let all : All FitsHere c.self.inside.parts.items = rw c.deref.ensures.value at c.law_fits.ensures in
+    rw (← c.self.view_is) (present_world (record { shape = c.self.inside.sites; parts = c.self.inside.parts.items }) c.self.invariant all)
