@@ -101,3 +101,9 @@ all_laid n whole laid l = record {
   presents = sym (append-nil (presents_of (stamped_of laid))) ∙ l.presents;
   entries = sym (append-nil (map entries_of laid)) ∙ l.entries;
 }
+
+pub start_laid : (n : ShapeNumbers) (whole : List PartView) (laid : List PlacedView) (left : List PartView) → laid ≡ [] → left ≡ reverse whole → Laying n whole laid left
+start_laid n whole laid left none all = subst (λ ps. Laying n whole ps left) (sym none) (subst (λ us. Laying n whole [] us) (sym all) (none_laid n whole))
+
+pub end_laid : (n : ShapeNumbers) (whole : List PartView) (laid : List PlacedView) (left : List PartView) → left ≡ [] → Laying n whole laid left → AreFresh n whole laid
+end_laid n whole laid left none l = all_laid n whole laid (subst (λ us. Laying n whole laid us) none l)

@@ -1,6 +1,6 @@
 -- Parts at their places stay a crew, and are a machine now.
-use Rattle.std.proofs.Common.{◌≡◌, ◌∙◌, ◌<◌, ◌+◌, ◌||◌, ℕ, zero, suc, Bool, List, [], ◌∷◌, Some, get_or, is_some, length, map, slice_get, slice_index_or, refl, sym, ap, subst, arith}
-use Rattle.std.specs.List.{All, list_any}
+use Rattle.std.proofs.Common.{◌≡◌, ◌∙◌, ◌<◌, ◌+◌, ◌||◌, ℕ, zero, suc, Bool, true, false, List, [], ◌∷◌, Some, get_or, is_some, length, map, slice_get, slice_index_or, refl, sym, ap, subst, arith}
+use Rattle.std.specs.List.{All}
 use Rattle.std.proofs.lemmas.List.Elements.{All-head, All-tail}
 use Rattle.tn_base.specs.declared.shape.ShapeNumbers.{ShapeNumbers}
 use Rattle.tn_base.specs.Parts.{kind_of, part_count}
@@ -35,10 +35,25 @@ crew_stays n ps qs crew kept = record {
 pub start_stays : (n : ShapeNumbers) (ps qs : List PlacedView) → map began qs ≡ map began ps → start_of (record { shape = n; parts = qs }) ≡ start_of (record { shape = n; parts = ps })
 start_stays n ps qs same = ap (machine n) (same_starts ps qs same)
 
--- each part tells whether its journal has a final event
-pub stopped_by : (ps : List PlacedView) → list_any (λ (p : PlacedView). is_some (first_final p.stamped.entries p.stamped.start)) ps ≡ some_ended (stamped_of ps)
-stopped_by [] = refl
-stopped_by (p ∷ ps) = ap (λ (b : Bool). is_some (first_final p.stamped.entries p.stamped.start) || b) (stopped_by ps)
+or_true : (b : Bool) → (b || true) ≡ true
+or_true true = refl
+or_true false = refl
+
+-- no event of the part's journal is final
+abbrev pub GoesOn : PlacedView → Type 0
+GoesOn p = is_some (first_final p.stamped.entries p.stamped.start) ≡ false
+
+none_at : (p : PlacedView) (ps : List PlacedView) → GoesOn p → some_ended (stamped_of ps) ≡ false → some_ended (stamped_of (p ∷ ps)) ≡ false
+none_at p ps here rest = ap (λ (b : Bool). b || some_ended (stamped_of ps)) here ∙ rest
+
+pub none_stopped : (ps : List PlacedView) → All GoesOn ps → some_ended (stamped_of ps) ≡ false
+none_stopped [] all = refl
+none_stopped (p ∷ ps) all = none_at p ps (All-head GoesOn p ps all) (none_stopped ps (All-tail GoesOn p ps all))
+
+pub stopped_at : (ps : List PlacedView) (i : ℕ) (p : PlacedView) → i < length ps → get_or ps i p ≡ p → is_some (first_final p.stamped.entries p.stamped.start) ≡ true → some_ended (stamped_of ps) ≡ true
+stopped_at [] i p l e t = absurd (omega arith)
+stopped_at (q ∷ qs) zero p l e t = ap (λ (b : Bool). b || some_ended (stamped_of qs)) (ap (λ (u : PlacedView). is_some (first_final u.stamped.entries u.stamped.start)) e ∙ t)
+stopped_at (q ∷ qs) (suc i) p l e t = ap (λ (b : Bool). is_some (first_final q.stamped.entries q.stamped.start) || b) (stopped_at qs i p (omega arith) e t) ∙ or_true (is_some (first_final q.stamped.entries q.stamped.start))
 
 pub crew_count : (c : CrewView) → IsCrew c → length c.parts ≡ part_count c.shape
 crew_count c crew = sym (count_starts c.parts) ∙ crew.world.count

@@ -100,7 +100,12 @@ fn laid_all(
 fn has_stopped(parts: &[Placed<PlainLink>]) -> bool
     ensures { result ≡ some_ended (stamped_of parts.now) }
 {
-    parts.iter().any(|part| part.stamped().ended())
+    for part in parts {
+        if part.stamped().ended() {
+            return true;
+        }
+    }
+    false
 }
 
 /// How workers left the parts, or that memory or a stamp was refused before a final event.

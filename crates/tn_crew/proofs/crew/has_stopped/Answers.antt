@@ -1,11 +1,16 @@
-use Rattle.std.proofs.Common.{rules, ◌≡◌, ◌∙◌, is_some}
-use Rattle.std.specs.List.{list_any}
-use Rattle.tn_crew.proofs.Standing.{stopped_by}
+use Rattle.std.proofs.Common.{rules, arith, ◌≡◌, ◌≤◌, ◌∙◌, length, true, false, sym, is_some}
+use Rattle.std.specs.List.{All}
+use Rattle.std.proofs.lemmas.List.{take_all}
+use Rattle.std.proofs.lemmas.List.Elements.{All-more}
+use Rattle.tn_crew.proofs.Standing.{GoesOn, none_stopped}
 use Rattle.tn_crew.proofs.crew.has_stopped.Goals as goal
-use Rattle.tn_rows.specs.Stamped.{first_final}
-use Rattle.tn_stamped.specs.Placed.{PlacedView}
+
+pub loop-part-preserved : goal.loop-part-preserved
+loop-part-preserved c =
+    All-more GoesOn c.args.parts.now c.loop-part.part-index c.part-item.result (omega arith) c.loop-part.invariant
+    (rw (← c.part-item.is) (search rules))
 
 pub returns : goal.returns
 returns c =
-    let any : c.any.result ≡ list_any (λ (p : PlacedView). is_some (first_final p.stamped.entries p.stamped.start)) c.args.parts.now = search rules in
-    any ∙ stopped_by c.args.parts.now
+    let long : length c.args.parts.now ≤ c.loop-part.part-index = omega arith in
+    sym (none_stopped c.args.parts.now (rw (take_all c.loop-part.part-index c.args.parts.now long) at c.loop-part.invariant))
