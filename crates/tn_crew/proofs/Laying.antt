@@ -60,7 +60,7 @@ laid_more n whole laid left v p l next =
     let began : p.stamped.start ∷ reverse left ≡ reverse (left ++ v ∷ []) = ap (λ u. u ∷ reverse left) next.start ∙ sym turned in
     let is : p.stamped.present ∷ reverse left ≡ reverse (left ++ v ∷ []) = ap (λ u. u ∷ reverse left) next.present ∙ sym turned in
     let wrote : p.stamped.entries ∷ no_entries (reverse left) ≡ no_entries (reverse (left ++ v ∷ [])) =
-        ap (λ es. es ∷ no_entries (reverse left)) next.entries ∙ ap no_entries (sym turned) in
+    ap (λ es. es ∷ no_entries (reverse left)) next.entries ∙ ap no_entries (sym turned) in
     let behind : p.place ≡ 0 + length laid = omega (arith, next.place) in
     record {
       placed = at_end n 0 laid p l.placed next.shape behind;
@@ -87,7 +87,7 @@ next_fits n whole laid left v world l =
     let there = next_there n whole laid left v l in
     let seam : slice_index_or (starts ++ v ∷ reverse left) (length starts) AbsentV ≡ v = get_or-append_seam starts v (reverse left) AbsentV in
     let at : slice_index_or whole (length laid) AbsentV ≡ v =
-        ap (λ us. slice_index_or us (length laid) AbsentV) (sym there) ∙ (ap (λ k. slice_index_or (starts ++ v ∷ reverse left) k AbsentV) (sym (count_starts laid)) ∙ seam) in
+    ap (λ us. slice_index_or us (length laid) AbsentV) (sym there) ∙ (ap (λ k. slice_index_or (starts ++ v ∷ reverse left) k AbsentV) (sym (count_starts laid)) ∙ seam) in
     let less = next_within n whole laid left v l in
     let count = world.count in
     let within : length laid < part_count n = omega (arith, less, count) in
