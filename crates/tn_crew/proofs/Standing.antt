@@ -8,7 +8,7 @@ use Rattle.tn_crew.proofs.Laying.{count_presents, count_starts}
 use Rattle.tn_crew.specs.Crew.{AreFresh, CrewView, IsCrew, present_of, start_of}
 use Rattle.tn_rows.specs.Events.{FitsKind, IsWorld}
 use Rattle.tn_rows.specs.PartView.{AbsentV, PartView}
-use Rattle.tn_rows.specs.Stamped.{first_final, machine, presents_of, starts_of}
+use Rattle.tn_rows.specs.Stamped.{first_final, machine, presents_of}
 use Rattle.tn_settle.specs.Settles.{some_ended}
 use Rattle.tn_stamp.specs.Merging.{ArePaired}
 use Rattle.tn_stamped.proofs.Closing.{same_at, same_starts}

@@ -1,5 +1,4 @@
-use Rattle.std.proofs.Common.{rules, arith, ◌≡◌, ◌≤◌, ◌∙◌, length, true, false, sym, is_some}
-use Rattle.std.specs.List.{All}
+use Rattle.std.proofs.Common.{rules, arith, ◌≤◌, length, sym}
 use Rattle.std.proofs.lemmas.List.{take_all}
 use Rattle.std.proofs.lemmas.List.Elements.{All-more}
 use Rattle.tn_crew.proofs.Standing.{GoesOn, none_stopped, stopped_at}
