@@ -2,6 +2,7 @@
 use Rattle.std.specs.Prelude.{ℕ, ◌==◌, ◌&&◌, Bool, false, List, [], ◌∷◌, Option, Some, None, if◌then◌else◌}
 use Rattle.polite_edges.specs.declared.deed.Deed.{Deed}
 use Rattle.polite_edges.specs.declared.deed.Deed.TheVariants.{Announced, Finished, Inited, Missed, Received, Sent, Stepped}
+use Rattle.polite_edges.specs.declared.deed.PinSend.{PinSend}
 use Rattle.polite_edges.specs.declared.deed.LogItem.{LogItem}
 use Rattle.polite_edges.specs.declared.deed.LogItem.TheVariants.{EdgeReceived, VertexFinished, VertexSent, VertexStepped}
 use Rattle.polite_edges.specs.VertexLog.{number_at, sends_of}
@@ -26,10 +27,14 @@ is_send_of u (Stepped a d v) = false
 is_send_of u (Finished a d v) = false
 is_send_of u (Announced value) = false
 
--- the vertex of a send of the packet with this origin and number
+-- the vertex of a send, if it is the send of the packet with this origin and number
+abbrev pub sender_by : ℕ → ℕ → PinSend → Option ℕ
+sender_by origin n s = if s.thread == origin && s.number == n then Some s.vertex else None
+
+-- the vertex of the send of the packet with this origin and number, if the deed is this send
 abbrev pub sender_of : ℕ → ℕ → Deed → Option ℕ
 sender_of origin n (Inited a d v) = None
-sender_of origin n (Sent s) = if s.thread == origin && s.number == n then Some s.vertex else None
+sender_of origin n (Sent s) = sender_by origin n s
 sender_of origin n (Received a d e l) = None
 sender_of origin n (Missed a d e) = None
 sender_of origin n (Stepped a d v) = None

@@ -7,7 +7,7 @@ ghost use Rattle.tn_rows.specs.WorldView.{WorldView};
 ghost use Rattle.polite_edges.specs.Histories.{history_log};
 ghost use Rattle.polite_edges.specs.declared.deed.LogItem.TheVariants.{EdgeReceived, VertexSent};
 ghost use Rattle.polite_edges.specs.VertexLog.{number_at, sends_of, vertex_log};
-ghost use Rattle.polite_log.specs.Log.{is_send_of, items_of, sender_of};
+ghost use Rattle.polite_log.specs.Log.{is_send_of, items_of, sender_by, sender_of};
 
 use crate::deeds::deeds_of;
 use polite_edges::deed::{Deed, LogItem, PinSend};
@@ -17,29 +17,27 @@ use tn_base::message::Letter;
 use tn_link::link::Link;
 use tn_world::world::World;
 
-/// The vertex log of a run: the sends, receives, steps and finishes of the vertices of a graph, the newest first. The run is made again on a
+/// The vertex log of a run: the sends, receives, steps and finishes of the vertices of a graph, the oldest first. The run is made again on a
 /// copy of the start.
-pub fn history_log<L: Link>(
+pub fn vertex_log<L: Link>(
     alloc: Global,
     start: &World<L>,
     history: &[Event],
 ) -> Result<Vec<LogItem>, AllocError>
     requires start { IsStart start.now }
     requires run { (end : WorldView) × Run start.now history.now end }
-    ensures { IfOk result (λ log. log.items ≡ history_log start.now history.now) }
+    ensures { IfOk result (λ log. reverse log.items ≡ history_log start.now history.now) }
 {
-    let deeds = deeds_of(alloc.clone()?, start, history)?;
-    vertex_log(alloc, &deeds)
+    let deeds = deeds_of(alloc, start, history)?;
+    log_of(alloc, &deeds)
 }
 
-/// The vertex log of deeds, the newest first. The deeds come the oldest first.
-pub fn vertex_log(alloc: Global, deeds: &[Deed]) -> Result<Vec<LogItem>, AllocError>
-    ensures { IfOk result (λ log. log.items ≡ vertex_log (reverse deeds.now)) }
+/// The vertex log of deeds. Both come the oldest first.
+fn log_of(alloc: Global, deeds: &[Deed]) -> Result<Vec<LogItem>, AllocError>
+    ensures { IfOk result (λ log. reverse log.items ≡ vertex_log (reverse deeds.now)) }
 {
     let mut log = Vec::new(alloc);
-    let mut at = deeds.len();
-    while at > 0 {
-        at -= 1;
+    for at in 0..deeds.len() {
         push_item(&mut log, &deeds[at], &deeds[..at])?;
     }
     Ok(log)
@@ -47,7 +45,7 @@ pub fn vertex_log(alloc: Global, deeds: &[Deed]) -> Result<Vec<LogItem>, AllocEr
 
 /// Adds the item that a deed is, if it is an item.
 fn push_item(log: &mut Vec<LogItem>, deed: &Deed, older: &[Deed]) -> Result<(), AllocError>
-    ensures { OnOk result (log.new.items ≡ log.old.items ++ items_of deed.now (reverse older.now)) }
+    ensures { OnOk result (reverse log.new.items ≡ items_of deed.now (reverse older.now) ++ reverse log.old.items) }
 {
     match deed {
         Deed::Sent(send) => log.push(sent(send, older))?,
@@ -95,7 +93,10 @@ fn sends_of(vertex: u32, deeds: &[Deed]) -> u64
 fn sends(vertex: u32, deeds: &[Deed]) -> usize
     ensures { result ≡ count_by (is_send_of vertex) deeds.now }
 {
-    deeds.iter().filter(|deed| is_send_of(vertex, deed)).count()
+    deeds
+        .iter()
+        .filter(|deed| is_send_of(vertex, deed))
+        .count()
 }
 
 /// Whether a deed is a send of a vertex.
@@ -104,12 +105,12 @@ fn is_send_of(vertex: u32, deed: &Deed) -> bool
 {
     match deed {
         Deed::Sent(send) => send.vertex == vertex,
-        Deed::Inited { .. }
-        | Deed::Received { .. }
-        | Deed::Missed { .. }
-        | Deed::Stepped { .. }
-        | Deed::Finished { .. }
-        | Deed::Announced(_) => false,
+        Deed::Inited { .. } => false,
+        Deed::Received { .. } => false,
+        Deed::Missed { .. } => false,
+        Deed::Stepped { .. } => false,
+        Deed::Finished { .. } => false,
+        Deed::Announced(_) => false,
     }
 }
 
@@ -132,7 +133,23 @@ fn sender_of(origin: u32, number: u32, deed: &Deed) -> Option<u32>
     ensures { result ≡ sender_of origin number deed.now }
 {
     match deed {
-        Deed::Sent(send) if send.thread == origin && send.number == number => Some(send.vertex),
-        _ => None,
+        Deed::Sent(send) => sender_by(origin, number, send),
+        Deed::Inited { .. } => None,
+        Deed::Received { .. } => None,
+        Deed::Missed { .. } => None,
+        Deed::Stepped { .. } => None,
+        Deed::Finished { .. } => None,
+        Deed::Announced(_) => None,
+    }
+}
+
+/// The vertex of a send, if the send is that of the packet.
+fn sender_by(origin: u32, number: u32, send: &PinSend) -> Option<u32>
+    ensures { result ≡ sender_by origin number send.now }
+{
+    if send.thread == origin && send.number == number {
+        Some(send.vertex)
+    } else {
+        None
     }
 }
