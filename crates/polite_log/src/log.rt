@@ -52,9 +52,7 @@ fn push_item(log: &mut Vec<LogItem>, deed: &Deed, older: &[Deed]) -> Result<(), 
         Deed::Received { edge, letter, .. } => log.push(received(*edge, letter, older))?,
         Deed::Stepped { vertex, .. } => log.push(LogItem::VertexStepped { vertex: *vertex })?,
         Deed::Finished { vertex, .. } => log.push(LogItem::VertexFinished { vertex: *vertex })?,
-        Deed::Inited { .. } => {}
-        Deed::Missed { .. } => {}
-        Deed::Announced(_) => {}
+        Deed::Inited { .. } | Deed::Missed { .. } | Deed::Announced(_) => {}
     }
     Ok(())
 }
@@ -93,10 +91,7 @@ fn sends_of(vertex: u32, deeds: &[Deed]) -> u64
 fn sends(vertex: u32, deeds: &[Deed]) -> usize
     ensures { result ≡ count_by (is_send_of vertex) deeds.now }
 {
-    deeds
-        .iter()
-        .filter(|deed| is_send_of(vertex, deed))
-        .count()
+    deeds.iter().filter(|deed| is_send_of(vertex, deed)).count()
 }
 
 /// Whether a deed is a send of a vertex.
@@ -105,12 +100,12 @@ fn is_send_of(vertex: u32, deed: &Deed) -> bool
 {
     match deed {
         Deed::Sent(send) => send.vertex == vertex,
-        Deed::Inited { .. } => false,
-        Deed::Received { .. } => false,
-        Deed::Missed { .. } => false,
-        Deed::Stepped { .. } => false,
-        Deed::Finished { .. } => false,
-        Deed::Announced(_) => false,
+        Deed::Inited { .. }
+        | Deed::Received { .. }
+        | Deed::Missed { .. }
+        | Deed::Stepped { .. }
+        | Deed::Finished { .. }
+        | Deed::Announced(_) => false,
     }
 }
 
@@ -134,12 +129,12 @@ fn sender_of(origin: u32, number: u32, deed: &Deed) -> Option<u32>
 {
     match deed {
         Deed::Sent(send) => sender_by(origin, number, send),
-        Deed::Inited { .. } => None,
-        Deed::Received { .. } => None,
-        Deed::Missed { .. } => None,
-        Deed::Stepped { .. } => None,
-        Deed::Finished { .. } => None,
-        Deed::Announced(_) => None,
+        Deed::Inited { .. }
+        | Deed::Received { .. }
+        | Deed::Missed { .. }
+        | Deed::Stepped { .. }
+        | Deed::Finished { .. }
+        | Deed::Announced(_) => None,
     }
 }
 
