@@ -3,6 +3,6 @@ pub mod Dispatches
 pub mod HistoryDeeds
 pub mod Logs
 pub mod Making
-pub mod Reads
 pub mod Replaying
+pub mod Sights
 pub mod TileDeeds

@@ -5,7 +5,7 @@ use Rattle.tn_rows.specs.Events.{happened}
 use Rattle.polite_edges.specs.Deeds.{added}
 use Rattle.polite_log.specs.Reading.{next_deed, read_after}
 use Rattle.polite_log.proofs.Making.{step_read}
-use Rattle.polite_log.proofs.Reads.{redone}
+use Rattle.polite_log.proofs.Sights.{redone}
 use Rattle.polite_log.proofs.reading.push_step.Goals as goal
 
 pub returns-clause-deeds : goal.returns-clause-deeds
