@@ -6,6 +6,7 @@
 
 pub mod deeds;
 pub mod laws;
+pub mod log;
 pub mod reading;
 pub mod received;
 pub mod summary;
