@@ -1,7 +1,7 @@
 -- The deed of a step is the one that is read of its thread before and after the step.
-use Rattle.std.proofs.Common.{ℕ, ◌+◌, ◌%◌, ◌^◌, ◌≡◌, ◌/◌, ◌<◌, ◌∙◌, Bool, true, false, cond, List, length, get_or, refl, sym, ap, subst, arith, Option, Some, None, inl, inr}
+use Rattle.std.proofs.Common.{ℕ, ◌+◌, ◌%◌, ◌^◌, ◌≡◌, ◌/◌, ◌<◌, ◌∙◌, Bool, true, false, cond, List, length, get_or, refl, sym, ap, subst, Option, Some, None, inl, inr}
 use Rattle.std.specs.Prelude.{is_some, nat_lt, option_and_then, option_map, slice_get, unwrap_or}
-use Rattle.std.proofs.lemmas.Bool.{and_parts, cases_lt, cond_both}
+use Rattle.std.proofs.lemmas.Bool.{and_parts, cases_lt}
 use Rattle.std.proofs.lemmas.List.{get_or-set_same, get_or_past}
 use Rattle.polite_switch.specs.declared.action.Action.{Action}
 use Rattle.polite_switch.specs.declared.action.Action.TheVariants as action
@@ -9,7 +9,6 @@ use Rattle.polite_switch.specs.declared.action.SwitchView.{SwitchView}
 use Rattle.polite_switch.specs.declared.course.Call.{Call}
 use Rattle.polite_switch.specs.declared.course.Entry.{Entry}
 use Rattle.polite_switch.specs.declared.course.Entry.TheVariants as entry
-use Rattle.polite_switch.specs.declared.row.Acted.{Acted}
 use Rattle.polite_switch.specs.declared.row.Row.{Row}
 use Rattle.polite_switch.specs.declared.row.Row.TheVariants as row
 use Rattle.polite_switch.specs.Course.{finished_after, number_of, stepped_after}
@@ -31,19 +30,19 @@ use Rattle.tn_thread.specs.declared.command.Command.TheVariants as command
 use Rattle.tn_thread.specs.declared.state.ThreadState.{ThreadState}
 use Rattle.tn_thread.specs.declared.state.ThreadState.TheVariants as state
 use Rattle.tn_thread.specs.declared.thread.Thread.{Thread}
-use Rattle.tn_thread.specs.Command.{commanded, given_up, handed, sent_by as command_sent, sent_off, stays}
-use Rattle.tn_thread.specs.Dispatch.{command_of, dispatch, does, view_of}
+use Rattle.tn_thread.specs.Command.{commanded, handed, sent_by as command_sent, stays}
+use Rattle.tn_thread.specs.Dispatch.{command_of, does, view_of}
 use Rattle.tn_thread.specs.Sight.{Sight}
 use Rattle.tn_thread.specs.Step.{Stepped, trapped}
-use Rattle.tn_tile.specs.Step.{acted as tile_acted, can_step, due_at, due_by, no_thread, sight_at, step_at_place, step_by, stepped, thread_at, with_thread}
+use Rattle.tn_tile.specs.Step.{acted as tile_acted, can_step, due_at, due_by, no_thread, sight_at, step_at_place, step_by, thread_at, with_thread}
 use Rattle.tn_tile.specs.declared.state.TileState.{TileState}
 use Rattle.tn_tile.specs.TileView.{TileView}
 use Rattle.tn_thread.specs.Step.{runnable}
 use Rattle.tn_letters.specs.Steps.{after_step}
 use Rattle.tn_letters.specs.Tiles.{held_in}
 use Rattle.polite_edges.specs.declared.deed.Deed.{Deed}
-use Rattle.polite_edges.specs.declared.deed.Deed.TheVariants.{Missed, Received, Sent}
-use Rattle.polite_edges.specs.Deeds.{begun_by, deed_of, received_by, sent_by}
+use Rattle.polite_edges.specs.declared.deed.Deed.TheVariants.{Sent}
+use Rattle.polite_edges.specs.Deeds.{begun_by, deed_of, received_by}
 use Rattle.polite_edges.specs.Layout.{vertex_in}
 use Rattle.polite_edges.specs.Runs.{dispatch_deed, doer_of, message_of, unless_trap}
 use Rattle.polite_log.specs.declared.reading.Before.{Before}

@@ -1,7 +1,6 @@
 -- A turn that is made step by step, and the deeds of its steps.
-use Rattle.std.proofs.Common.{ℕ, zero, suc, ◌+◌, ◌-◌, ◌^◌, ◌≡◌, ◌<◌, ◌≤◌, ◌∙◌, nat_lt, Bool, true, false, cond, List, [], ◌∷◌, length, set, get_or, refl, sym, ap, subst, arith, Option, Some, None, is_some, option_map, unwrap_or}
+use Rattle.std.proofs.Common.{ℕ, zero, suc, ◌+◌, ◌-◌, ◌^◌, ◌≡◌, ◌<◌, ◌≤◌, ◌∙◌, nat_lt, true, cond, List, length, set, refl, sym, ap, subst, arith, Option, Some, None, is_some, option_map, unwrap_or}
 use Rattle.std.specs.Prelude.{option_and_then, slice_get}
-use Rattle.std.proofs.lemmas.Bool.{and_parts}
 use Rattle.std.proofs.lemmas.List.{get_or-set_same}
 use Rattle.std.proofs.lemmas.Option.{slice_get-get_or, slice_get_within}
 use Rattle.std.proofs.Common.{length-set}

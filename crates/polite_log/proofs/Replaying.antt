@@ -1,5 +1,5 @@
 -- A history that is made again, event by event.
-use Rattle.std.proofs.Common.{ℕ, ◌+◌, ◌≡◌, ◌<◌, ◌≤◌, ◌∙◌, true, List, [], ◌∷◌, length, drop, get_or, refl, sym, ap, subst, Option, Some, None, is_some, option_map, unwrap_or}
+use Rattle.std.proofs.Common.{ℕ, ◌+◌, ◌≡◌, ◌<◌, ◌≤◌, ◌∙◌, true, List, [], ◌∷◌, length, drop, get_or, refl, sym, ap, subst, Option, Some, is_some, option_map, unwrap_or}
 use Rattle.std.proofs.lemmas.List.{drop_all, drop_more}
 use Rattle.std.specs.Prelude.{cond}
 use Rattle.std.specs.List.{list_all}
@@ -14,11 +14,9 @@ use Rattle.tn_rows.specs.Events.{happened}
 use Rattle.tn_rows.specs.Runs.{Run}
 use Rattle.tn_rows.specs.WorldView.{WorldView}
 use Rattle.tn_tile.specs.Still.{votes_for}
-use Rattle.tn_letters.specs.AtRest.{told_value}
 use Rattle.tn_letters.specs.Law.{IsStart}
-use Rattle.tn_letters.specs.Machine.{addresses, answer}
+use Rattle.tn_letters.specs.Machine.{addresses}
 use Rattle.tn_letters.specs.Settled.{settled}
-use Rattle.tn_letters.specs.Standing.{bag_at}
 use Rattle.tn_letters.specs.Tiles.{thread_of}
 use Rattle.tn_letters.proofs.Announced.{told_votes}
 use Rattle.tn_letters.proofs.Calm.{quiet_start}

@@ -15,7 +15,6 @@ use Rattle.tn_slots.proofs.Kept.{free_masks}
 use Rattle.tn_thread.specs.declared.state.ThreadState.{ThreadState}
 use Rattle.tn_thread.specs.declared.state.ThreadState.TheVariants as state
 use Rattle.tn_thread.specs.declared.thread.Thread.{Thread}
-use Rattle.tn_thread.specs.Dispatch.{at_firmware}
 use Rattle.tn_tile.specs.declared.deliver.Did.{Did}
 use Rattle.tn_tile.specs.declared.deliver.Did.TheVariants as did
 use Rattle.tn_tile.specs.Rows.{is_here, sender_of}
@@ -25,7 +24,6 @@ use Rattle.tn_rows.specs.WorldView.{WorldView}
 use Rattle.tn_world.specs.Plays.{Redone}
 use Rattle.tn_letters.specs.Letters.{letter}
 use Rattle.tn_letters.specs.Tiles.{held_in, letter_in, sender_at}
-use Rattle.polite_log.specs.declared.reading.Before.{Before}
 use Rattle.polite_log.specs.Reading.{before_at}
 
 -- ---- an event that is enabled and made again
