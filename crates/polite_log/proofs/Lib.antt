@@ -1,5 +1,6 @@
 pub mod Counted
 pub mod Dispatches
+pub mod Hands
 pub mod HistoryDeeds
 pub mod Logs
 pub mod Making

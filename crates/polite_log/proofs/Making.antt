@@ -194,25 +194,6 @@ pub record TurnGoes (t : ThreadId) (n made : ℕ) (start now : WorldView) (old d
   pub rest : Left (n - made) t now end
   pub deeds : deeds_on ds t (n - made) now (part_of now.shape t) ≡ deeds_on old t n start (part_of start.shape t)
 
-some_is : {X : Type 0} (o : Option X) → is_some o ≡ true → (x : X) × (o ≡ Some x)
-some_is None e = cc e
-some_is (Some x) e = (x, refl)
-
-left_whole : (n : ℕ) (t : ThreadId) (w end : WorldView) → happened (event.Turn t n) w ≡ Some end → Left n t w end
-left_whole zero t w end h = let a = turn_at t 0 w end h in let low = (turn_tests a.tile.plan t.0 0 a.tile.now a.made a.row).low in absurd (omega arith)
-left_whole (suc n) t w end h = h
-
-pub turn_starts : (t : ThreadId) (n : ℕ) (w : WorldView) (old : List Deed) → is_some (happened (event.Turn t n) w) ≡ true → TurnGoes t n 0 w w old old
-turn_starts t n w old some =
-    let e = some_is (happened (event.Turn t n) w) some in
-    let all : n - 0 ≡ n = omega arith in
-    record {
-      end = e.0;
-      whole = e.1;
-      rest = subst (λ m. Left m t w e.0) (sym all) (left_whole n t w e.0 e.1);
-      deeds = ap (λ m. deeds_on old t m w (part_of w.shape t)) all;
-    }
-
 left_now : (n made : ℕ) → made < n → n - made ≡ suc (n - (made + 1))
 left_now n made h = omega arith
 

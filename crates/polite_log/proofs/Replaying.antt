@@ -1,5 +1,5 @@
 -- A history that is made again, event by event.
-use Rattle.std.proofs.Common.{ℕ, ◌+◌, ◌≡◌, ◌<◌, ◌≤◌, ◌∙◌, true, List, [], ◌∷◌, length, drop, get_or, refl, sym, ap, subst, Option, Some, is_some, option_map, unwrap_or}
+use Rattle.std.proofs.Common.{ℕ, ◌+◌, ◌≡◌, ◌<◌, ◌≤◌, ◌∙◌, List, [], ◌∷◌, length, drop, get_or, refl, sym, ap, subst, Option, Some, option_map, unwrap_or}
 use Rattle.std.proofs.lemmas.List.{drop_all, drop_more}
 use Rattle.std.specs.Prelude.{cond}
 use Rattle.std.specs.List.{list_all}
@@ -56,9 +56,6 @@ so_far_none start now history s run same =
 
 split : (start now : WorldView) (history : List Event) (i : ℕ) (d : Event) (ds : List Deed) → SoFar start now history (drop i history) ds → i < length history → SoFar start now history (get_or history i d ∷ drop (i + 1) history) ds
 split start now history i d ds s less = subst (λ es. SoFar start now history es ds) (drop_more history i d less) s
-
-pub so_far_some : (start now : WorldView) (history : List Event) (i : ℕ) (d : Event) (ds : List Deed) → SoFar start now history (drop i history) ds → i < length history → is_some (happened (get_or history i d) now) ≡ true
-so_far_some start now history i d ds s less = ap is_some (split start now history i d ds s less).run.1.1
 
 pub so_far_tells : (start now : WorldView) (history others : List Event) (ds : List Deed) → SoFar start now history others ds → TellsAnswer now
 so_far_tells start now history others ds s = tells now s.good s.quiet

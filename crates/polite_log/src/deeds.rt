@@ -74,7 +74,7 @@ fn push_event<L: Link>(
 }
 
 /// Makes an event that is enabled.
-fn make<L: Link>(
+pub(crate) fn make<L: Link>(
     world: &mut World<L>,
     event: &Event,
     stock: &mut PageStock,
