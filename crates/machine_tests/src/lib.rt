@@ -15,6 +15,8 @@ mod firmware_tests;
 #[cfg(test)]
 mod jobs;
 #[cfg(test)]
+mod log_tests;
+#[cfg(test)]
 mod machines;
 #[cfg(test)]
 mod rest_tests;
