@@ -71,6 +71,9 @@ fn the_log_of_a_vertex(rt: HostRuntime) -> Result<(), Fail> {
     let stepped = LogItem::VertexStepped { vertex: 0 };
     let finished = LogItem::VertexFinished { vertex: 0 };
     assert!(rt; count == 1, "received");
-    assert!(rt; log.as_slice() == [sent, came, stepped, finished].as_slice(), "log");
+    assert!(rt;
+        log.as_slice() == [sent, came, stepped, finished].as_slice(),
+        "log"
+    );
     Ok(())
 }
