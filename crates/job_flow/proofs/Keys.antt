@@ -10,11 +10,9 @@ use Rattle.tn_letters.specs.Tiles.{tables_of}
 use Rattle.tn_rows.specs.WorldView.{WorldView}
 use Rattle.graph_text.specs.Graph.{pins_at}
 use Rattle.polite_place.specs.declared.placement.Seat.{Seat}
-use Rattle.polite_place.specs.Outs.{outs_of}
-use Rattle.polite_place.specs.Seats.{Seated, seat_of}
-use Rattle.polite_place.proofs.Seating.{length_seats, seated}
+use Rattle.polite_place.specs.Seats.{seat_of}
 use Rattle.polite_routes.specs.Answer.{pin_key}
-use Rattle.polite_routes.proofs.Serving.{all_served, made}
+use Rattle.polite_routes.proofs.Serving.{all_served}
 use Rattle.polite_switch.specs.Device.{device_at, joined_key, key_at}
 use Rattle.polite_edges.specs.Layout.{IsKeyOf}
 use Rattle.polite_flow.specs.Graphs.{GraphFlows, KeysMaySend}
@@ -28,24 +26,20 @@ use Rattle.job_faults.specs.declared.fault.LoadFault.{LoadFault}
 use Rattle.job_faults.specs.declared.map.Mapped.{Mapped}
 use Rattle.job_faults.specs.Fits.{Fits}
 use Rattle.job_faults.specs.Order.{load_fault, unless}
-use Rattle.job_faults.proofs.Fits.{count_outs, edges_below, fits, threads_of}
+use Rattle.job_faults.proofs.Fits.{fits}
 use Rattle.job_load.specs.Start.{start_of}
 use Rattle.job_load.proofs.Fits.{fits_machine}
 use Rattle.job_edges.specs.JobLayout.{layout_of, switch_at}
 use Rattle.job_edges.specs.Laws.{IsGraphJob, IsGraphMachine}
-use Rattle.job_edges.proofs.Begins.{tables_are}
-use Rattle.job_edges.proofs.Routing.{all_pins, device_is}
+use Rattle.job_flow.proofs.Devices.{all_pins, all_seated, device_is}
+use Rattle.job_flow.proofs.Tables.{tables_are}
 
 -- ---- the routes of the job
 
 routes : (job : Job) (m : Mapped) → Fits job m → AreRoutes job.numbers m.graph m.placement m.routes
 routes job m f =
-    let n : ShapeNumbers = job.numbers in
-    let outs : List (List ℕ) = outs_of m.graph in
-    let placing = made n m.graph.per_thread outs m.placement f.placement_is in
-    let count : length m.placement ≡ length m.graph.vertices = ap length placing.seated ∙ length_seats n outs ∙ count_outs m.graph in
-    let seats_fit : Seated n m.graph.per_thread m.placement = subst (Seated n m.graph.per_thread) (sym placing.seated) (seated n outs m.graph.per_thread (threads_of n f.limits) (edges_below m.graph f.graph_is) placing.room) in
-    are_routes n m.graph m.placement m.routes m.graph.per_thread f.limits f.routes_are (all_served n m.graph m.placement m.routes f.limits f.graph_is (all_pins job m f) f.routes_are) count seats_fit
+    let seats = all_seated job m f in
+    are_routes job.numbers m.graph m.placement m.routes m.graph.per_thread f.limits f.routes_are (all_served job.numbers m.graph m.placement m.routes f.limits f.graph_is (all_pins job m f) f.routes_are) seats.0 seats.1
 
 -- ---- keys of pins
 

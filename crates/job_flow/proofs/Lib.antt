@@ -1,1 +1,3 @@
+pub mod Devices
 pub mod Keys
+pub mod Tables
