@@ -1,3 +1,6 @@
+pub mod Carried
+pub mod Crossed
 pub mod Devices
+pub mod Drops
 pub mod Keys
 pub mod Tables
