@@ -255,7 +255,7 @@ event_carries : (e : Event) (events : ℕ) (w new : WorldView) → Good w → Is
 event_carries e events w new good quiet all h =
     let n : ShapeNumbers = w.shape in
     let same = (kept_at e w new (places n e) quiet.world h).1 in
-    let each = each_row (λ i a b. Carries n events a → Carries n (suc events) b) (λ i x. stays n events x) e w new (λ c crosses i a b read row held. part_after n (tables_of w) i events e c a b good.limits (good_at w i a good read) (crosses_fit e w c (places n e) good crosses) held row) h in
+    let each = each_row (λ i a b. Carries n events a → Carries n (suc events) b) (λ i x. stays n events x) e w new (λ c crosses i a b read row now held. part_after n (tables_of w) i events e c a b good.limits (good_at w i a good read) (crosses_fit e w c (places n e) good crosses) held row) h in
     λ p. subst (λ s. Carries s (suc events) (get_or new.parts p AbsentV)) (sym same) (each p (all p))
 
 walk_carries : (es : List Event) (events : ℕ) (w end : WorldView) → Good w → IsQuietWorld w → AllCarry events w → Walk w es end → AllCarry (events + length es) end

@@ -5,8 +5,8 @@ use Rattle.std.specs.List.{slice_get}
 use Rattle.std.specs.Prelude.{option_and_then}
 use Rattle.std.proofs.lemmas.Bool.{cases_eq}
 use Rattle.std.proofs.lemmas.Grind.{get_or-set_at}
-use Rattle.std.proofs.lemmas.List.{get_or-set_other}
-use Rattle.std.proofs.lemmas.Option.{get_or_from_slice_get, slice_get_within}
+use Rattle.std.proofs.lemmas.List.{get_or-set_other, get_or-set_same}
+use Rattle.std.proofs.lemmas.Option.{get_or_from_slice_get, slice_get-get_or, slice_get_within}
 use Rattle.tn_base.specs.declared.event.Event.{Event}
 use Rattle.tn_rows.specs.Events.{Met, after, crossing_of, happened, happened_at, meets, meets_at, met_with, with_both, with_part}
 use Rattle.tn_rows.specs.PartView.{PartView, AbsentV}
@@ -30,9 +30,20 @@ CrossesAt e w c Nowhere = ⊥
 CrossesAt e w c (One p) = c ≡ crossing.None
 CrossesAt e w c (Two p q) = Passes e w c p q
 
+-- a part of the machine after the event: on one part it is that part
+abbrev pub IsNow : Places → WorldView → ℕ → PartView → Type 0
+IsNow Nowhere new i b = ⊥
+IsNow (One p) new i b = (i ≡ p) × (slice_get new.parts i ≡ Some b)
+IsNow (Two p q) new i b = Unit {0}
+
 -- a fact of each part's number, of the part before the event and of the part after it
 abbrev pub Fact : Type 1
 Fact = ℕ → PartView → PartView → Type 0
+
+set_there : (parts : List PartView) (p : ℕ) (x : PartView) → p < length parts → slice_get (set parts p x) p ≡ Some x
+set_there parts p x h =
+    let size = length-set parts p x in
+    slice_get-get_or (set parts p x) p AbsentV (omega arith) ∙ ap (λ y. Some y) (get_or-set_same parts p x AbsentV h)
 
 -- part p becomes another part, of which the fact holds. Then it holds of each part, if it holds of parts that stay
 placed : (R : Fact) → ((i : ℕ) (x : PartView) → R i x x) → (parts : List PartView) (p q : ℕ) (old new : PartView) → slice_get parts p ≡ Some old → R p old new → R q (get_or parts q AbsentV) (get_or (set parts p new) q AbsentV)
@@ -63,20 +74,21 @@ both_placed R same parts p q r low high new_low new_high read_low read_high here
     ]
 
 -- the fact follows from each row
-abbrev Rowwise : Fact → Event → WorldView → Places → Type 0
-Rowwise R e w at = (c : Crossing) → CrossesAt e w c at → (i : ℕ) (a b : PartView) → slice_get w.parts i ≡ Some a → after e c a ≡ Some b → R i a b
+abbrev Rowwise : Fact → Event → WorldView → WorldView → Places → Type 0
+Rowwise R e w new at = (c : Crossing) → CrossesAt e w c at → (i : ℕ) (a b : PartView) → slice_get w.parts i ≡ Some a → after e c a ≡ Some b → IsNow at new i b → R i a b
 
 crossed : (e : Event) (low high : PartView) (o : Option Crossing) (m : Met) → met_with e low high o ≡ Some m → (c : Crossing) × (o ≡ Some c) × (after e c low ≡ Some m.low) × (after e c high ≡ Some m.high)
 crossed e low high None m is = cc is
 crossed e low high (Some c) m is = let rows = met_rows (after e c low) (after e c high) m is in (c, refl, rows.0, rows.1)
 
-one_part : (R : Fact) → ((i : ℕ) (x : PartView) → R i x x) → (e : Event) (old new : WorldView) (p r : ℕ) (o : Option PartView) → Rowwise R e old (One p) → slice_get old.parts p ≡ o → option_map (with_part old p) (option_and_then (after e crossing.None) o) ≡ Some new → R r (get_or old.parts r AbsentV) (get_or new.parts r AbsentV)
+one_part : (R : Fact) → ((i : ℕ) (x : PartView) → R i x x) → (e : Event) (old new : WorldView) (p r : ℕ) (o : Option PartView) → Rowwise R e old new (One p) → slice_get old.parts p ≡ o → option_map (with_part old p) (option_and_then (after e crossing.None) o) ≡ Some new → R r (get_or old.parts r AbsentV) (get_or new.parts r AbsentV)
 one_part R same e old new p r None rows read is = cc is
 one_part R same e old new p r (Some part) rows read is =
     let m = mapped (with_part old p) (after e crossing.None part) new is in
-    subst (λ (x : WorldView). R r (get_or old.parts r AbsentV) (get_or x.parts r AbsentV)) m.2 (placed R same old.parts p r part m.0 read (rows crossing.None refl p part m.0 read m.1))
+    let now : slice_get new.parts p ≡ Some m.0 = subst (λ (x : WorldView). slice_get x.parts p ≡ Some m.0) m.2 (set_there old.parts p m.0 (slice_get_within old.parts p part read)) in
+    subst (λ (x : WorldView). R r (get_or old.parts r AbsentV) (get_or x.parts r AbsentV)) m.2 (placed R same old.parts p r part m.0 read (rows crossing.None refl p part m.0 read m.1 (refl, now)))
 
-two_parts : (R : Fact) → ((i : ℕ) (x : PartView) → R i x x) → (e : Event) (old new : WorldView) (p q r : ℕ) (low high : Option PartView) → Rowwise R e old (Two p q) → slice_get old.parts p ≡ low → slice_get old.parts q ≡ high → option_map (with_both old p q) (meets_at e low high) ≡ Some new →
+two_parts : (R : Fact) → ((i : ℕ) (x : PartView) → R i x x) → (e : Event) (old new : WorldView) (p q r : ℕ) (low high : Option PartView) → Rowwise R e old new (Two p q) → slice_get old.parts p ≡ low → slice_get old.parts q ≡ high → option_map (with_both old p q) (meets_at e low high) ≡ Some new →
     R r (get_or old.parts r AbsentV) (get_or new.parts r AbsentV)
 two_parts R same e old new p q r None high rows read_low read_high is = cc is
 two_parts R same e old new p q r (Some low) None rows read_low read_high is = cc is
@@ -85,13 +97,13 @@ two_parts R same e old new p q r (Some low) (Some high) rows read_low read_high 
     let c = crossed e low high (crossing_of e low high) m.0 m.1 in
     let crosses : CrossesAt e old c.0 (Two p q) = record { low = low; high = high; low_is = read_low; high_is = read_high; gives = c.1 } in
     subst (λ (x : WorldView). R r (get_or old.parts r AbsentV) (get_or x.parts r AbsentV)) m.2
-    (both_placed R same old.parts p q r low high m.0.low m.0.high read_low read_high (rows c.0 crosses p low m.0.low read_low c.2) (rows c.0 crosses q high m.0.high read_high c.3))
+    (both_placed R same old.parts p q r low high m.0.low m.0.high read_low read_high (rows c.0 crosses p low m.0.low read_low c.2 tt) (rows c.0 crosses q high m.0.high read_high c.3 tt))
 
-at_places : (R : Fact) → ((i : ℕ) (x : PartView) → R i x x) → (e : Event) (old new : WorldView) (r : ℕ) (at : Places) → Rowwise R e old at → happened_at e old at ≡ Some new → R r (get_or old.parts r AbsentV) (get_or new.parts r AbsentV)
+at_places : (R : Fact) → ((i : ℕ) (x : PartView) → R i x x) → (e : Event) (old new : WorldView) (r : ℕ) (at : Places) → Rowwise R e old new at → happened_at e old at ≡ Some new → R r (get_or old.parts r AbsentV) (get_or new.parts r AbsentV)
 at_places R same e old new r Nowhere rows is = cc is
 at_places R same e old new r (One p) rows is = one_part R same e old new p r (slice_get old.parts p) rows refl is
 at_places R same e old new r (Two p q) rows is = two_parts R same e old new p q r (slice_get old.parts p) (slice_get old.parts q) rows refl refl is
 
 -- a fact that holds of parts that stay, and that follows from each row, holds of each part
-pub each_row : (R : Fact) → ((i : ℕ) (x : PartView) → R i x x) → (e : Event) (old new : WorldView) → Rowwise R e old (places old.shape e) → happened e old ≡ Some new → (r : ℕ) → R r (get_or old.parts r AbsentV) (get_or new.parts r AbsentV)
+pub each_row : (R : Fact) → ((i : ℕ) (x : PartView) → R i x x) → (e : Event) (old new : WorldView) → Rowwise R e old new (places old.shape e) → happened e old ≡ Some new → (r : ℕ) → R r (get_or old.parts r AbsentV) (get_or new.parts r AbsentV)
 each_row R same e old new rows is r = at_places R same e old new r (places old.shape e) rows is

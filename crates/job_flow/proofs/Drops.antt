@@ -1,10 +1,7 @@
 -- An event drops at most 512 letters of a tile.
-use Rattle.std.proofs.Common.{ℕ, zero, suc, ◌≡◌, ◌≤◌, ◌<◌, ◌+◌, refl, sym, ap, ◌∙◌, subst, arith, List, [], ◌∷◌, length, get_or, set, inl, inr, Option, Some, None, sum_by}
-use Rattle.std.specs.Int.{bit_at}
+use Rattle.std.proofs.Common.{ℕ, zero, suc, ◌≡◌, ◌≤◌, ◌<◌, ◌+◌, refl, sym, ap, ◌∙◌, subst, arith, List, [], ◌∷◌, length, get_or, set, inl, inr, Option, Some, None}
 use Rattle.std.proofs.lemmas.Bool.{cases_lt}
 use Rattle.std.proofs.lemmas.List.{get_or_past}
-use Rattle.std.proofs.lemmas.List.Sums.{sum_by-cons}
-use Rattle.std.proofs.lemmas.Nat.Bits.{bit_at-lt}
 use Rattle.rv_isa.specs.declared.instr.Instr.{Instr}
 use Rattle.tn_base.specs.declared.message.Packet.{Packet}
 use Rattle.tn_base.specs.declared.op.Op.{Op}
@@ -14,10 +11,10 @@ use Rattle.tn_node.specs.Deed.{Deed}
 use Rattle.tn_node.specs.Deed as deed
 use Rattle.tn_node.specs.NodeRows.{give_row}
 use Rattle.tn_rows.proofs.Meeting.{mapped}
-use Rattle.tn_slots.specs.declared.slot.Slot.{Slot}
 use Rattle.tn_slots.specs.Pool.{queue_at, taken, taken_from}
 use Rattle.tn_slots.specs.PoolModel.{PoolModel}
 use Rattle.tn_slots.specs.WellKept.{WellKept}
+use Rattle.tn_slots.proofs.Kept.{queue_short}
 use Rattle.tn_thread.specs.declared.thread.Thread.{Thread}
 use Rattle.tn_tile.specs.declared.state.TileState.{TileState}
 use Rattle.tn_tile.specs.Rows.{delivered_from, tile_deed, with_node}
@@ -31,19 +28,11 @@ use Rattle.tn_tile.proofs.Turns.{turn_tests}
 
 -- ---- queues
 
-bits_few : (k : ℕ) (xs : List Slot) → sum_by (λ (x : Slot). bit_at x.owed k) xs ≤ length xs
-bits_few k [] = omega arith
-bits_few k (x ∷ xs) =
-    let first = sum_by-cons (λ (y : Slot). bit_at y.owed k) x xs in
-    let low = bit_at-lt x.owed k in
-    let rest = bits_few k xs in
-    omega arith
-
 -- a queue has no more letters than the pool has slots
 pub queue_few : (p : PoolModel) (k : ℕ) → WellKept p → length (queue_at p k) ≤ 512
 queue_few p k kept = elim (cases_lt k (length p.queues)) [
-  | inl there ↦ let long = kept.long k there in let bits = bits_few k p.slots in let slots = kept.few_slots in omega arith
-  | inr past ↦ let none = ap (length {X = ℕ}) (get_or_past p.queues k [] past) in omega arith
+  | inl there ↦ let short = queue_short p kept k there in let slots = kept.few_slots in omega arith
+  | inr past ↦ let none = ap (λ (xs : List ℕ). length xs) (get_or_past p.queues k [] past) in omega arith
 ]
 
 set_long : (qs : List (List ℕ)) (k : ℕ) (new : List ℕ) → length (get_or (set qs k new) k []) ≤ length new
@@ -52,7 +41,7 @@ set_long (q ∷ qs) zero new = omega arith
 set_long (q ∷ qs) (suc k) new = set_long qs k new
 
 taken_long : (k : ℕ) (p : PoolModel) (q : List ℕ) → queue_at p k ≡ q → length (queue_at (taken_from k q p) k) ≤ length q
-taken_long k p [] e = let same = ap (length {X = ℕ}) e in omega arith
+taken_long k p [] e = let same = ap (λ (xs : List ℕ). length xs) e in omega arith
 taken_long k p (s ∷ rest) e = let less = set_long p.queues k rest in omega arith
 
 -- ---- steps
