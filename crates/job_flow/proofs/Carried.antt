@@ -148,7 +148,7 @@ nothing_fits n (event.Release p) = tt
 nothing_fits n (event.Go p) = tt
 
 -- the part of the machine at a place
-good_at : (w : WorldView) (p : ℕ) (x : PartView) → Good w → slice_get w.parts p ≡ Some x → GoodPart w.shape (tables_of w) p x
+pub good_at : (w : WorldView) (p : ℕ) (x : PartView) → Good w → slice_get w.parts p ≡ Some x → GoodPart w.shape (tables_of w) p x
 good_at w p x good read =
     let within = slice_get_within w.parts p x read in
     let count = good.count in

@@ -2,5 +2,9 @@ pub mod Carried
 pub mod Crossed
 pub mod Devices
 pub mod Drops
+pub mod Fuel
+pub mod Keeping
 pub mod Keys
 pub mod Tables
+pub mod Waiting
+pub mod Whole
