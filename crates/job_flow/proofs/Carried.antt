@@ -278,4 +278,5 @@ pub walks_carry : WalksCarry
 walks_carry start end history p begins walk =
     let good = good_start start begins in
     let first = each_place (λ i x. Carries start.shape 0 x) start.parts (λ i. tt) (λ i h. starts_so start.shape (get_or start.parts i AbsentV) (begins.parts i h)) in
-    walk_carries history 0 start end good (quiet_start start begins good) first walk p
+    let total : 0 + length history ≡ length history = omega arith in
+    subst (λ i. Carries end.shape i (get_or end.parts p AbsentV)) total (walk_carries history 0 start end good (quiet_start start begins good) first walk p)
