@@ -1,8 +1,10 @@
+pub mod BadKeys
 pub mod Carried
 pub mod Crossed
 pub mod Devices
 pub mod Drops
 pub mod Fuel
+pub mod GoingOn
 pub mod Keeping
 pub mod Keys
 pub mod Tables
