@@ -1,5 +1,5 @@
 -- On a machine that flows no event is the last of a run for a bad key.
-use Rattle.std.proofs.Common.{ℕ, ◌≡◌, ◌==◌, Bool, true, false, cond, refl, sym, ap, ◌∙◌, subst, List, get_or, Option, Some, None, option_map}
+use Rattle.std.proofs.Common.{ℕ, ◌≡◌, ◌==◌, Bool, true, false, cond, refl, sym, subst, List, Option, Some, None, option_map}
 use Rattle.std.specs.Prelude.{option_and_then, slice_get}
 use Rattle.std.proofs.lemmas.Option.{get_or_from_slice_get}
 use Rattle.tn_base.specs.declared.event.Event.{Event}

@@ -1,5 +1,5 @@
 -- Along each walk each packet on a link is one of the machine, and few letters were dropped on a tile.
-use Rattle.std.proofs.Common.{ℕ, suc, ◌≡◌, ◌≤◌, ◌<◌, ◌+◌, ◌*◌, ◌++◌, Bool, true, false, cond, refl, sym, ap, ◌∙◌, subst, arith, IsTrue, List, [], ◌∷◌, length, get_or, Option, Some, None, option_map, MatchOption}
+use Rattle.std.proofs.Common.{ℕ, suc, ◌≡◌, ◌≤◌, ◌+◌, ◌++◌, Bool, true, false, cond, sym, ap, ◌∙◌, subst, arith, IsTrue, List, [], ◌∷◌, length, get_or, Option, Some, None, option_map, MatchOption}
 use Rattle.std.specs.Prelude.{slice_get}
 use Rattle.std.specs.List.{AllByRecursion}
 use Rattle.std.proofs.lemmas.Bool.{and_from}
@@ -17,7 +17,7 @@ use Rattle.tn_host.specs.declared.script.ScriptItem.{ScriptItem}
 use Rattle.tn_host.specs.declared.script.ScriptItem.TheVariants as item
 use Rattle.tn_host.specs.Script.{first_item, packet_of}
 use Rattle.tn_keys.specs.Tables.{Table}
-use Rattle.tn_letters.specs.Law.{IsSendable, IsStart, StartsSo}
+use Rattle.tn_letters.specs.Law.{IsSendable, StartsSo}
 use Rattle.tn_letters.specs.Tiles.{tables_of}
 use Rattle.tn_letters.proofs.Calm.{quiet_start}
 use Rattle.tn_letters.proofs.Crossings.{put_is}

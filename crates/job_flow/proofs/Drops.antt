@@ -1,5 +1,5 @@
 -- An event drops at most 512 letters of a tile.
-use Rattle.std.proofs.Common.{ℕ, zero, suc, ◌≡◌, ◌≤◌, ◌<◌, ◌+◌, refl, sym, ap, ◌∙◌, subst, arith, List, [], ◌∷◌, length, get_or, set, inl, inr, Option, Some, None}
+use Rattle.std.proofs.Common.{ℕ, zero, suc, ◌≡◌, ◌≤◌, ◌+◌, refl, sym, ap, arith, List, [], ◌∷◌, length, get_or, set, inl, inr, Option, Some, None}
 use Rattle.std.proofs.lemmas.Bool.{cases_lt}
 use Rattle.std.proofs.lemmas.List.{get_or_past}
 use Rattle.rv_isa.specs.declared.instr.Instr.{Instr}
@@ -11,7 +11,7 @@ use Rattle.tn_node.specs.Deed.{Deed}
 use Rattle.tn_node.specs.Deed as deed
 use Rattle.tn_node.specs.NodeRows.{give_row}
 use Rattle.tn_rows.proofs.Meeting.{mapped}
-use Rattle.tn_slots.specs.Pool.{queue_at, taken, taken_from}
+use Rattle.tn_slots.specs.Pool.{queue_at, taken_from}
 use Rattle.tn_slots.specs.PoolModel.{PoolModel}
 use Rattle.tn_slots.specs.WellKept.{WellKept}
 use Rattle.tn_slots.proofs.Kept.{queue_short}

@@ -1,5 +1,5 @@
 -- Along walks of a graph's job an event is enabled, if each tile serves; and a run that is not over goes on.
-use Rattle.std.proofs.Common.{ℕ, ◌≡◌, ◌<◌, ◌^◌, refl, sym, subst, arith, List, length, get_or, inl, inr, Option, Some, None, is_some}
+use Rattle.std.proofs.Common.{ℕ, ◌≡◌, ◌<◌, ◌^◌, refl, sym, subst, arith, List, length, get_or, inl, inr, Option, Some, None}
 use Rattle.std.specs.Prelude.{◌⊎◌, IsSome}
 use Rattle.std.proofs.lemmas.Bool.{cases_lt}
 use Rattle.std.proofs.lemmas.List.{get_or_past}
@@ -26,7 +26,7 @@ use Rattle.polite_flow.specs.Sending.{AreSenders}
 use Rattle.polite_flow.specs.Standing.{IsEnabled}
 use Rattle.polite_flow.specs.Threads.{ThreadGoesOn}
 use Rattle.polite_flow.proofs.Walked.{walks_go_on}
-use Rattle.job_flow.specs.Serves.{HasFuel, PartServed, PartServes, TileServes}
+use Rattle.job_flow.specs.Serves.{PartServed, PartServes}
 use Rattle.job_flow.proofs.Carried.{walks_carry}
 use Rattle.job_flow.proofs.Fuel.{AllFuel}
 use Rattle.job_flow.proofs.Keeping.{TileKeeps}

@@ -1,10 +1,9 @@
 -- What each deed of a tile of a graph's job keeps: a thread that waits, waits for room to send, and a dead thread has no letters.
-use Rattle.std.proofs.Common.{ℕ, zero, suc, ◌≡◌, ◌≤◌, ◌<◌, ◌+◌, ◌-◌, ◌^◌, ◌==◌, ◌&&◌, Bool, true, false, cond, refl, sym, ap, ◌∙◌, subst, arith, List, [], ◌∷◌, length, get_or, map, set, inl, inr, min, length-set, Option, Some, None, option_map}
+use Rattle.std.proofs.Common.{ℕ, zero, suc, ◌≡◌, ◌≤◌, ◌<◌, ◌+◌, ◌^◌, ◌==◌, Bool, true, false, cond, refl, sym, ap, ◌∙◌, subst, arith, List, [], ◌∷◌, length, get_or, map, set, inl, inr, length-set, Option, Some, None}
 use Rattle.std.specs.Int.{bit_at, bit_not, w64}
-use Rattle.std.specs.Prelude.{bit_and}
 use Rattle.std.specs.List.{AllByRecursion}
 use Rattle.std.proofs.Math.Nat.{pow-le-pow_right}
-use Rattle.std.proofs.lemmas.Bool.{and_parts, cases_eq, eqb-true}
+use Rattle.std.proofs.lemmas.Bool.{and_parts, cases_eq}
 use Rattle.std.proofs.lemmas.List.{get_or-map, get_or-set_same, length-map}
 use Rattle.std.proofs.lemmas.Nat.Bits.{bit_at_and, bit_at_not}
 use Rattle.rv_isa.specs.declared.instr.Instr.{Instr}
@@ -27,9 +26,8 @@ use Rattle.tn_thread.specs.declared.state.ThreadState.TheVariants as state
 use Rattle.tn_thread.specs.declared.thread.Thread.{Thread}
 use Rattle.tn_thread.specs.Step.{answered, is_idle, runnable}
 use Rattle.tn_tile.specs.declared.state.TileState.{TileState}
-use Rattle.tn_tile.specs.Kept.{IsFit}
-use Rattle.tn_tile.specs.Receivers.{alive_of, dead_in, dead_of, is_dead, receivers}
-use Rattle.tn_tile.specs.Rows.{delivered_from, passed, passed_by, received, released, sent_on, stored, stored_at, tile_deed, told, with_node}
+use Rattle.tn_tile.specs.Receivers.{alive_of, dead_in, is_dead, receivers}
+use Rattle.tn_tile.specs.Rows.{delivered_from, passed_by, received, released, sent_on, stored, stored_at, tile_deed, told, with_node}
 use Rattle.tn_tile.specs.Step.{acted, can_step, no_thread, pending_at, sight_at, step_at_place, stepped, steps_of, thread_at, with_thread}
 use Rattle.tn_tile.specs.TileView.{TilePlan}
 use Rattle.tn_tile.proofs.Dead.{dead_at, dead_below, dead_bit}

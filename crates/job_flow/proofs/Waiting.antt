@@ -1,5 +1,5 @@
 -- A thread of a graph's job that waits, waits for room to send.
-use Rattle.std.proofs.Common.{ℕ, ◌≡◌, ◌/◌, ◌%◌, ◌&&◌, Bool, cond, not, true, false, List, refl, ap, subst, sym, ◌∙◌, Option, Some, None, is_some, slice_get}
+use Rattle.std.proofs.Common.{ℕ, ◌≡◌, ◌/◌, ◌%◌, ◌&&◌, Bool, cond, not, true, false, List, refl, ap, ◌∙◌, Option, Some, None, is_some, slice_get}
 use Rattle.std.specs.Prelude.{bit_and}
 use Rattle.std.proofs.lemmas.Bool.{cond_both}
 use Rattle.polite_switch.specs.declared.action.Action.{Action}
@@ -25,7 +25,7 @@ use Rattle.tn_thread.specs.declared.state.ThreadState.{ThreadState}
 use Rattle.tn_thread.specs.declared.state.ThreadState.TheVariants as state
 use Rattle.tn_thread.specs.declared.thread.Thread.{Thread}
 use Rattle.tn_thread.specs.Command.{handed, sent_by, sent_off}
-use Rattle.tn_thread.specs.Dispatch.{dispatch, does, view_of}
+use Rattle.tn_thread.specs.Dispatch.{does, view_of}
 use Rattle.tn_thread.specs.Registers.{is_open, may_write, register_of}
 use Rattle.tn_thread.specs.Sight.{Sight}
 use Rattle.tn_thread.specs.Step.{Stepped, loaded_from, loaded_message, place_of, read_by, read_row, received, resumed_by, runnable, stepped, stored_to, trapped, turned_by, write_by}

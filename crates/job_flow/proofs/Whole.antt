@@ -1,5 +1,5 @@
 -- What holds of each tile of a graph's job along walks, and along runs that are not over.
-use Rattle.std.proofs.Common.{ℕ, zero, suc, ◌≡◌, ◌≤◌, ◌<◌, ◌+◌, ◌*◌, ◌^◌, true, refl, sym, ap, ◌∙◌, subst, arith, List, [], ◌∷◌, length, get_or, Option, Some, None, option_map}
+use Rattle.std.proofs.Common.{ℕ, zero, suc, ◌≡◌, ◌≤◌, ◌<◌, ◌^◌, refl, sym, ap, ◌∙◌, subst, arith, List, [], ◌∷◌, length, get_or, Option, Some, None, option_map}
 use Rattle.std.specs.Prelude.{option_and_then, slice_get}
 use Rattle.std.specs.List.{AllByRecursion}
 use Rattle.std.proofs.lemmas.Bool.{lt-ltb}
@@ -20,7 +20,7 @@ use Rattle.tn_quiet.proofs.Runs.{event_quiet, kept_at}
 use Rattle.tn_rows.specs.Ends.{final_after, final_of, final_on, last_of}
 use Rattle.tn_rows.specs.Events.{after, deed_of, detector_row, happened, host_row, link_row, router_row, tile_did}
 use Rattle.tn_rows.specs.PartView.{PartView, TileV, RouterV, LinkV, HostV, DetectorV, AbsentV}
-use Rattle.tn_rows.specs.Places.{Places, at_part, part_of, places}
+use Rattle.tn_rows.specs.Places.{at_part, part_of, places}
 use Rattle.tn_rows.specs.Runs.{Run, Walk}
 use Rattle.tn_rows.specs.WorldView.{WorldView}
 use Rattle.tn_rows.proofs.Meeting.{mapped}
