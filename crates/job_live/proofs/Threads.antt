@@ -2,13 +2,14 @@
 -- what a step leaves of it.
 use Rattle.std.proofs.Common.{ℕ, ◌≡◌, ◌≢◌, ◌+◌, ◌/◌, ◌%◌, ◌==◌, ◌||◌, Bool, true, false, cond, refl, sym, ap, ◌∙◌, subst, inl, inr, List, Option, Some, None, slice_get}
 use Rattle.std.specs.Prelude.{◌⊎◌, is_some, bit_and}
-use Rattle.std.proofs.lemmas.Bool.{eqb-true}
+use Rattle.std.proofs.lemmas.Bool.{eq-eqb, eqb-true}
 use Rattle.polite_switch.specs.declared.action.Action.{Action}
 use Rattle.polite_switch.specs.declared.action.Action.TheVariants as action
 use Rattle.polite_switch.specs.declared.action.SwitchView.{SwitchView}
 use Rattle.polite_switch.specs.declared.course.Course.{Course}
 use Rattle.polite_switch.specs.declared.row.Row.{Row}
 use Rattle.polite_switch.specs.declared.row.Row.TheVariants as row
+use Rattle.polite_switch.specs.Course.{back_of}
 use Rattle.polite_switch.specs.Kept.{RowHolds}
 use Rattle.polite_switch.specs.SwitchModel.{SwitchModel}
 use Rattle.polite_switch.specs.Table.{acted, dispatched, done, fault_of, is_host, is_pin, row_of, taken, unless_fault}
@@ -29,7 +30,7 @@ use Rattle.tn_tile.specs.Handlers.{LeavesSwitch}
 use Rattle.tn_tile.specs.Step.{due_at, due_by, next_step, step_by}
 use Rattle.tn_tile.proofs.Handlers.{handlers_private}
 use Rattle.tn_tile.proofs.Moved.{next_fits}
-use Rattle.job_live.proofs.Course.{CourseWell, Finishes, Silent, TakenWell, course_row, early_after, early_row, late_after, silent_row, taken_silent, taken_well}
+use Rattle.job_live.proofs.Course.{CourseWell, Finishes, Silent, TakenWell, sends, course_row, early_after, early_row, late_after, silent_row, taken_silent, taken_well}
 use Rattle.job_live.proofs.Private.{Moves, private_moves}
 
 abbrev pub firmware_pc : ℕ
@@ -173,6 +174,7 @@ ActionState (action.Trap why) t u = u.state ≡ state.Trapped why
 
 record Did (a : Action) (t u : Thread) : Type 0 where
   pub switch : u.switch ≡ t.switch
+  pub firmware : u.firmware ≡ t.firmware
   pub state : ActionState a t u
 
 either : (P : Stepped → Type 0) (b : Bool) (x y : Stepped) → P x → P y → P (cond b x y)
@@ -181,32 +183,33 @@ either P false x y f g = g
 
 record Ran (t : Thread) (r : Stepped) : Type 0 where
   pub switch : r.thread.switch ≡ t.switch
+  pub firmware : r.thread.firmware ≡ t.firmware
   pub goes : Goes r.thread
 
 handed_ran : (o : Option ℕ) (t : Thread) → t.state ≡ state.Run → Ran t (handed o t)
-handed_ran None t run = record { switch = refl; goes = inr (trap.RecvEmpty, refl) }
-handed_ran (Some slot) t run = record { switch = refl; goes = inl (run, refl) }
+handed_ran None t run = record { switch = refl; firmware = refl; goes = inr (trap.RecvEmpty, refl) }
+handed_ran (Some slot) t run = record { switch = refl; firmware = refl; goes = inl (run, refl) }
 
 off_ran : (to : Dest) (seen : Sight) (t : Thread) → t.state ≡ state.Run → Ran t (sent_off to seen t)
-off_ran to seen t run = either (Ran t) seen.can_send _ _ (record { switch = refl; goes = inl (run, refl) }) (record { switch = refl; goes = inr (trap.SendBusy, refl) })
+off_ran to seen t run = either (Ran t) seen.can_send _ _ (record { switch = refl; firmware = refl; goes = inl (run, refl) }) (record { switch = refl; firmware = refl; goes = inr (trap.SendBusy, refl) })
 
 key_ran : (key : Option ℕ) (seen : Sight) (t : Thread) → t.state ≡ state.Run → Ran t (sent_by key seen t)
-key_ran None seen t run = record { switch = refl; goes = inl (run, refl) }
+key_ran None seen t run = record { switch = refl; firmware = refl; goes = inl (run, refl) }
 key_ran (Some key) seen t run = off_ran (dest.Key key) seen t run
 
 did_by : (a : Action) (t : Thread) (r : Stepped) → Ran t r → (Goes r.thread → ActionState a t r.thread) → Did a t r.thread
-did_by a t r f to = record { switch = f.switch; state = to f.goes }
+did_by a t r f to = record { switch = f.switch; firmware = f.firmware; state = to f.goes }
 
 does_did : (a : Action) (seen : Sight) (t : Thread) → t.state ≡ state.Run → Did a t (does a seen t).thread
-does_did (action.Handler entry state message value vertex ready) seen t run = record { switch = refl; state = inl (run, refl) }
+does_did (action.Handler entry state message value vertex ready) seen t run = record { switch = refl; firmware = refl; state = inl (run, refl) }
 does_did action.Recv seen t run = did_by action.Recv t (handed seen.first t) (handed_ran seen.first t run) (λ g. g)
 does_did (action.KeySend key) seen t run = did_by (action.KeySend key) t (sent_by key seen t) (key_ran key seen t run) (λ g. g)
 does_did action.HostSend seen t run = did_by action.HostSend t (sent_off dest.Host seen t) (off_ran dest.Host seen t run) (λ g. g)
-does_did action.Free seen t run = did_by action.Free t _ (either (Ran t) (is_some (seen.held t.hand)) _ _ (record { switch = refl; goes = inl (run, refl) }) (record { switch = refl; goes = inr (trap.BadFree, refl) })) (λ g. g)
-does_did (action.Wait waits) seen t run = record { switch = refl; state = refl }
-does_did (action.Idle vote) seen t run = record { switch = refl; state = (refl, refl) }
-does_did action.Kill seen t run = record { switch = refl; state = refl }
-does_did (action.Trap why) seen t run = record { switch = refl; state = refl }
+does_did action.Free seen t run = did_by action.Free t _ (either (Ran t) (is_some (seen.held t.hand)) _ _ (record { switch = refl; firmware = refl; goes = inl (run, refl) }) (record { switch = refl; firmware = refl; goes = inr (trap.BadFree, refl) })) (λ g. g)
+does_did (action.Wait waits) seen t run = record { switch = refl; firmware = refl; state = refl }
+does_did (action.Idle vote) seen t run = record { switch = refl; firmware = refl; state = (refl, refl) }
+does_did action.Kill seen t run = record { switch = refl; firmware = refl; state = refl }
+does_did (action.Trap why) seen t run = record { switch = refl; firmware = refl; state = refl }
 
 -- ---- what a row leaves
 
@@ -221,6 +224,9 @@ goes_left u c (inr g) = record { state = trapped_state u.state g.0 c g.1; pc = t
 wait_left : (u : Thread) (c : Course) (waits : ℕ) → u.state ≡ state.Wait (record { 0 = waits }) → c.hand ≡ None → (bit_and waits 2 ≡ 2) ⊎ (is_host c.due ≡ true) → StateLeft u c
 wait_left u c waits e hand more = record { state = subst (λ x. StateWell x c) (sym e) (hand, more); pc = subst (λ x. PcWell x u.given u.pc) (sym e) tt }
 
+idle_back : (c : Course) → c.entered ≡ false → sends (back_of c) ≡ false
+idle_back c e = ap sends (ap (λ b. cond b c.call None) e)
+
 row_left : (r : Row) (v : SwitchView) (s : SwitchModel) (t u : Thread) → t.pc ≡ firmware_pc → TakenWell s.course → CourseWell (done r v s).course → RowHolds r v s → ActionState (done r v s).action t u → StateLeft u (done r v s).course
 row_left row.KeySend v s t u pc w c h a = goes_left u _ a
 row_left row.HostSend v s t u pc w c h a = goes_left u _ a
@@ -230,7 +236,7 @@ row_left row.Recv v s t u pc w c h a = goes_left u _ a
 row_left row.Free v s t u pc w c h a = goes_left u _ a
 row_left row.Step v s t u pc w c h a = goes_left u _ a
 row_left row.Finish v s t u pc w c h a = goes_left u _ a
-row_left row.Kill v s t u pc w c h a = record { state = subst (λ x. StateWell x _) (sym a) tt; pc = subst (λ x. PcWell x u.given u.pc) (sym a) tt }
+row_left row.Kill v s t u pc w c h a = record { state = subst (λ x. StateWell x s.course) (sym a) tt; pc = subst (λ x. PcWell x u.given u.pc) (sym a) tt }
 row_left row.Take v s t u pc w c h a = goes_left u _ a
 row_left row.Send v s t u pc w c h a = goes_left u _ a
 row_left row.Wait v s t u pc w c h a = wait_left u _ 3 a h.0.hand (inl refl)
@@ -350,10 +356,11 @@ well_dispatch None seen t s w run pc =
     let taken_is = taken_well v s.course w.course in
     let course = course_row r v x taken_is (row_holds v x) in
     let left = row_left r v x (with_switch t new) (does made.action seen (with_switch t new)).thread pc taken_is course (row_holds v x) did.state in
-    record { switch = did.switch; firmware = firm made.action; course = course; state = left.state; pc = left.pc }
-  where
-    firm : (a : Action) → _
-    firm a = ?
+    record { switch = did.switch; firmware = did.firmware ∙ w.firmware; course = course; state = left.state; pc = left.pc }
+
+answered : {a g : ℕ} {P : Type 0} → a ≡ g → (g ≡ 2) ⊎ P → (a ≡ 2) ⊎ P
+answered e (inl two) = inl (e ∙ two)
+answered e (inr p) = inr p
 
 early_dispatch : (o : Option Trap) (seen : Sight) (t : Thread) (s : SwitchModel) → EarlyOf s t → t.state ≡ state.Run → let d = unless_fault o (view_of seen t) s in EarlyOf d.switch (does d.action seen (with_switch t d.switch)).thread
 early_dispatch (Some why) seen t s f run = record { finished = f.finished; state = tt }
@@ -383,3 +390,75 @@ over_dispatch None seen t s w f run =
     let some = late_after v s.course.finished (answered same here) in
     let left = silent_row r v x (taken_well v s.course w.course) (taken_silent v s.course f.silent) some (row_holds v x) in
     record { silent = left.silent; state = row_over r v x (with_switch t new) (does made.action seen (with_switch t new)).thread some left.finished (row_holds v x) did.state }
+
+-- ---- a step of each thread
+
+-- a thread after a step, with its softswitch
+pub record Well (r : Stepped) : Type 0 where
+  pub switch : SwitchModel
+  pub well : WellOf switch r.thread
+
+-- the softswitch after a step
+abbrev pub After : (SwitchModel → Thread → Type 0) → List (Option Instr) → Sight → Thread → Type 0
+After P code seen t = (s : SwitchModel) × WellOf s (next_step code seen t).thread × P s (next_step code seen t).thread
+
+private_well : (code : List (Option Instr)) (seen : Sight) (t : Thread) (s : SwitchModel) → runnable seen t.state ≡ true → WellOf s t → IsPrivateStep code seen t → WellOf s (next_step code seen t).thread
+private_well code seen t s runs w p =
+    let u = (next_step code seen t).thread in
+    record {
+      switch = p.leaves.switch ∙ w.switch;
+      firmware = (next_fits code seen t runs).keeps.firmware ∙ w.firmware;
+      course = w.course;
+      state = moved_state t.state seen t u s.course refl runs p.moves;
+      pc = moved_pc t.state seen t u refl runs w.pc p.moves;
+    }
+
+pub early_step : (code : List (Option Instr)) (seen : Sight) (t : Thread) (s : SwitchModel) → runnable seen t.state ≡ true → WellOf s t → EarlyOf s t → After EarlyOf code seen t
+early_step code seen t s runs w f = elim (step_is code seen t s w) [
+  | inl p ↦ (s, private_well code seen t s runs w p, record { finished = f.finished; state = moved_early t.state seen t (next_step code seen t).thread refl runs f.state p.moves })
+  | inr d ↦
+      let v = view_of seen t in
+      let well = well_dispatch (fault_of v s) seen t s w d.run d.pc in
+      let early = early_dispatch (fault_of v s) seen t s f d.run in
+      (next_switch seen t s, subst (λ (r : Stepped). WellOf (next_switch seen t s) r.thread) (sym d.is) well, subst (λ (r : Stepped). EarlyOf (next_switch seen t s) r.thread) (sym d.is) early)
+]
+
+-- no code stands at the firmware's address
+abbrev pub NoCode : List (Option Instr) → Type 0
+NoCode code = slice_get code (0xFFFFFFF0 / 4) ≡ None
+
+-- so a dispatch is due of a thread that runs there
+due_here : (q : ThreadState) (code : List (Option Instr)) (t : Thread) (s : SwitchModel) → NoCode code → q ≡ state.Run → t.pc ≡ firmware_pc → t.switch ≡ Some s → due_by q code t ≡ None → ⊥
+due_here state.Run code t s none run pc own e =
+    let at : due_at (slice_get code (t.pc / 4)) t ≡ t.switch = ap (λ i. due_at (slice_get code (i / 4)) t) pc ∙ ap (λ o. due_at o t) none ∙ ap (λ b. cond b t.switch None) (eq-eqb t.pc 0xFFFFFFF0 pc) in
+    let some = sym own ∙ sym at ∙ e in
+    cc some
+due_here (state.Wait waits) code t s none run pc own e = cc run
+due_here (state.Idle vote) code t s none run pc own e = cc run
+due_here (state.Answered value) code t s none run pc own e = cc run
+due_here (state.Dead value) code t s none run pc own e = cc run
+due_here (state.Trapped why) code t s none run pc own e = cc run
+
+-- a thread that runs and has made no dispatch since its answer has one due
+finishing : (code : List (Option Instr)) (t : Thread) (s : SwitchModel) → NoCode code → WellOf s t → OverOf s t → due_by t.state code t ≡ None → t.state ≡ state.Run → is_some s.course.finished ≡ true
+finishing code t s none w f due run = elim (subst (λ q. OverState q t.given s.course.finished) run f.state) [
+  | inr some ↦ some
+  | inl two ↦ elim (subst (λ q. PcWell q t.given t.pc) run w.pc) [
+    | inl zero ↦ cc (two, zero)
+    | inr pc ↦ absurd (due_here t.state code t s none run pc w.switch due)
+  ]
+]
+
+pub over_step : (code : List (Option Instr)) (seen : Sight) (t : Thread) (s : SwitchModel) → NoCode code → runnable seen t.state ≡ true → is_some seen.first ≡ false → WellOf s t → OverOf s t → After OverOf code seen t
+over_step code seen t s none runs empty w f = elim (step_is code seen t s w) [
+  | inl p ↦ (
+    s,
+    private_well code seen t s runs w p,
+    record { silent = f.silent; state = moved_over t.state seen t (next_step code seen t).thread s.course.finished refl runs empty (finishing code t s none w f p.due) f.state p.moves },
+  )
+  | inr d ↦
+      let v = view_of seen t in
+      let well = well_dispatch (fault_of v s) seen t s w d.run d.pc in
+      let over = over_dispatch (fault_of v s) seen t s w f d.run in
+      (next_switch seen t s, subst (λ (r : Stepped). WellOf (next_switch seen t s) r.thread) (sym d.is) well, subst (λ (r : Stepped). OverOf (next_switch seen t s) r.thread) (sym d.is) over)
+]
