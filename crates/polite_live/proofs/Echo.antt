@@ -1,6 +1,6 @@
 -- What holds of threads and of letters at each moment of a run of a graph's bag machine, beside what `polite_edges` says of nodes.
 use Rattle.std.proofs.Common.{ℕ, ◌+◌, ◌^◌, ◌<◌, ◌≡◌, ◌∙◌, Bool, true, false, List, [], ◌∷◌, refl, sym, ap, subst, inl, inr, arith, Option, Some, None}
-use Rattle.std.specs.Prelude.{is_some}
+use Rattle.std.specs.Prelude.{is_some, unwrap_or}
 use Rattle.std.specs.List.{AllByRecursion}
 use Rattle.std.proofs.lemmas.Bool.{cases_Bool, cases_eq}
 use Rattle.polite_switch.specs.SwitchModel.{SwitchModel}
@@ -91,10 +91,7 @@ silent_at g a log n f l two = elim (cases_Bool (is_some _)) [
 ]
 
 some_switch : (x y : SwitchModel) → (let o : Option SwitchModel = Some x in o) ≡ Some y → x ≡ y
-some_switch x y e = ap (λ (o : Option SwitchModel). from o) e where
-  from : Option SwitchModel → SwitchModel
-  from None = x
-  from (Some z) = z
+some_switch x y e = ap (λ o. unwrap_or o x) e
 
 nothing_held : (st : ThreadState) (o : Op) (now : ℕ → Option Letter) → EndsSo st o → (IsEnd o → (slot : ℕ) → now slot ≡ None) → HoldsNothing st now
 nothing_held state.Run o now e f = tt
