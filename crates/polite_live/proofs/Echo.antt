@@ -23,7 +23,9 @@ use Rattle.tn_letters.specs.declared.steps.BagStep.TheVariants as bag
 use Rattle.tn_letters.specs.declared.steps.Seen.{Seen}
 use Rattle.tn_letters.specs.Machine.{BagRun, Happens as Steps, MayStep, answer, ended_by, own_step, sent_by, sight, with_own_step}
 use Rattle.tn_letters.specs.State.{BagState, Program, Same}
-use Rattle.polite_edges.specs.Deeds.{Announced, Deed, added, deed_of, value_of}
+use Rattle.polite_edges.specs.declared.deed.Deed.{Deed}
+use Rattle.polite_edges.specs.declared.deed.Deed.TheVariants.{Announced}
+use Rattle.polite_edges.specs.Deeds.{added, deed_of, value_of}
 use Rattle.polite_edges.specs.Layout.{Layout}
 use Rattle.polite_edges.specs.Runs.{FewSteps, IsAwait, deed_at, deeds_after, dispatch_deed, doer_of, thread_deed, unless_trap}
 use Rattle.polite_edges.proofs.Fine.{NodeFine}

@@ -35,7 +35,9 @@ use Rattle.tn_letters.specs.declared.steps.Seen.{Seen}
 use Rattle.tn_letters.specs.Letters.{Takes, board_of, host_address}
 use Rattle.tn_letters.specs.Machine.{Allows, BagRun, Happens as Steps, IsAllowed, IsAtRest, IsPrivate, MayStep, addresses, announced, answer, ended_by, freed, handed, own_step, sent_by, sight, with_own_step}
 use Rattle.tn_letters.specs.State.{BagState, Program, Same, put}
-use Rattle.polite_edges.specs.Deeds.{Announced, Deed, Item, added}
+use Rattle.polite_edges.specs.declared.deed.Deed.{Deed}
+use Rattle.polite_edges.specs.declared.deed.Deed.TheVariants.{Announced}
+use Rattle.polite_edges.specs.Deeds.{Item, added}
 use Rattle.polite_edges.specs.Layout.{AllRouted, IsKeyOf, Layout}
 use Rattle.polite_edges.specs.Runs.{FewSteps, IsAwait, deed_at, deeds_after, thread_deed}
 use Rattle.polite_edges.proofs.Bags.{bag_weighs}

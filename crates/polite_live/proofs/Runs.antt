@@ -39,7 +39,7 @@ use Rattle.tn_letters.proofs.Meaning.{bag_run, event_arrives}
 use Rattle.tn_letters.proofs.Settling.{settled_stays}
 use Rattle.tn_letters.proofs.Starts.{good_start}
 use Rattle.tn_letters.proofs.Walks.{run_walk}
-use Rattle.polite_edges.specs.Deeds.{Deed}
+use Rattle.polite_edges.specs.declared.deed.Deed.{Deed}
 use Rattle.polite_edges.specs.Histories.{GraphHistory, history_deeds}
 use Rattle.polite_edges.specs.Layout.{AllRouted, IsPlaced, Layout}
 use Rattle.polite_edges.specs.Runs.{FewSteps, GraphRun, IsFreshThread, IsGraphStart, deeds_in, deeds_of}
