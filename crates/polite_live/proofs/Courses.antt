@@ -57,7 +57,7 @@ host_from : (call : Option Call) (v : SwitchView) (now : Due) → is_host (due_a
 host_from None v now h = inl h
 host_from (Some call) v now h = inr (finish_due call.entry v.a0 h)
 
-some_either : (b : Bool) (o : Option ℕ) → is_some o ≡ true → is_some (cond b (Some 0) o) ≡ true
+pub some_either : (b : Bool) (o : Option ℕ) → is_some o ≡ true → is_some (cond b (Some 0) o) ≡ true
 some_either true o h = refl
 some_either false o h = h
 

@@ -106,7 +106,7 @@ run_over g m start end steps r =
 -- ---- a run of the machine. These are private in `polite_edges` (`Machines`)
 
 -- a release leaves what a thread counted
-map_told : (value : ℕ) (ts : List Thread) (k : ℕ) → get_or (map (told value) ts) k no_thread ≡ told value (get_or ts k no_thread)
+pub map_told : (value : ℕ) (ts : List Thread) (k : ℕ) → get_or (map (told value) ts) k no_thread ≡ told value (get_or ts k no_thread)
 map_told value [] k = refl
 map_told value (t ∷ ts) zero = refl
 map_told value (t ∷ ts) (suc k) = map_told value ts k
