@@ -14,7 +14,7 @@ use Rattle.polite_live.specs.Live.{IsForHost, NoLettersComeAfterTwo}
 use Rattle.polite_live.proofs.Letters.{for_threads, for_threads-cons, is_for_thread, one}
 use Rattle.polite_live.proofs.Runs.{AtEnd, at_end}
 
-not_one : (b : Bool) → cond (not b) 1 0 ≡ 0 → b ≡ true
+not_one : (b : Bool) → (let x : ℕ = cond (not b) 1 0 in x) ≡ 0 → b ≡ true
 not_one true e = refl
 not_one false e = absurd (omega arith)
 
