@@ -1,5 +1,5 @@
 -- A send to the host is due, or a finish handler is running, only with no letter in hand and after an announcement of 2.
-use Rattle.std.proofs.Common.{ℕ, ◌≡◌, ◌≢◌, ◌⊎◌, ◌==◌, ◌+◌, ◌∙◌, Bool, true, false, cond, refl, sym, ap, subst, inl, inr, Option, Some, None, is_some}
+use Rattle.std.proofs.Common.{ℕ, ◌≡◌, ◌⊎◌, ◌==◌, ◌∙◌, Bool, true, false, cond, refl, sym, ap, subst, inl, inr, Option, Some, None, is_some}
 use Rattle.std.proofs.lemmas.Bool.{cases_eq}
 use Rattle.polite_switch.specs.declared.action.SwitchView.{SwitchView}
 use Rattle.polite_switch.specs.declared.course.Call.{Call}
@@ -10,15 +10,14 @@ use Rattle.polite_switch.specs.declared.course.Entry.{Entry}
 use Rattle.polite_switch.specs.declared.course.Entry.TheVariants as entry
 use Rattle.polite_switch.specs.declared.row.Row.{Row}
 use Rattle.polite_switch.specs.declared.row.Row.TheVariants as row
-use Rattle.polite_switch.specs.Course.{back_of, due_after, due_by, finished_after, taken_course}
+use Rattle.polite_switch.specs.Course.{back_of, due_after, due_by, taken_course}
 use Rattle.polite_switch.specs.Kept.{RowHolds}
-use Rattle.polite_switch.specs.SwitchModel.{SwitchModel}
-use Rattle.polite_switch.specs.Table.{Dispatched, fresh_switch, is_host, served_more}
+use Rattle.polite_switch.specs.Table.{Dispatched, is_host, served_more}
 use Rattle.polite_switch.proofs.Rows.{row_holds}
 use Rattle.polite_edges.specs.Layout.{Layout}
-use Rattle.polite_edges.proofs.Fine.{Fine, NodeFine}
+use Rattle.polite_edges.proofs.Fine.{Fine}
 use Rattle.polite_edges.proofs.Keeps.{by_row, row_at}
-use Rattle.polite_edges.proofs.Nodes.{Announces, Answered, Changed, Completes, Dead, Dispatch, Dispatches, Does, Drop, Event, Goes, Going, Happens, Has, Idling, Node, Nothing, Rests, Sees, Status, Wakes, World, node_after, status_by, view_of}
+use Rattle.polite_edges.proofs.Nodes.{Announces, Answered, Changed, Dead, Dispatch, Dispatches, Does, Drop, Event, Goes, Going, Happens, Has, Node, Nothing, Rests, Sees, World, node_after, status_by, view_of}
 use Rattle.polite_edges.proofs.Rows.{out, taken_at}
 use Rattle.polite_edges.proofs.Fine.{Resting, StatusFits}
 use Rattle.polite_edges.specs.Layout.{device_count}

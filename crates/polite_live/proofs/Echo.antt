@@ -1,5 +1,5 @@
 -- What holds of threads and of letters at each moment of a run of a graph's bag machine, beside what `polite_edges` says of nodes.
-use Rattle.std.proofs.Common.{ℕ, ◌+◌, ◌^◌, ◌<◌, ◌≡◌, ◌∙◌, Bool, true, false, List, [], ◌∷◌, refl, sym, ap, subst, inl, inr, arith, Option, Some, None}
+use Rattle.std.proofs.Common.{ℕ, ◌^◌, ◌<◌, ◌≡◌, ◌∙◌, true, List, [], ◌∷◌, refl, sym, ap, subst, inl, inr, arith, Option, Some, None}
 use Rattle.std.specs.Prelude.{is_some, unwrap_or}
 use Rattle.std.specs.List.{AllByRecursion}
 use Rattle.std.proofs.lemmas.Bool.{cases_Bool, cases_eq}
@@ -15,7 +15,7 @@ use Rattle.tn_thread.specs.declared.state.ThreadState.TheVariants as state
 use Rattle.tn_thread.specs.declared.thread.Thread.{Thread}
 use Rattle.tn_thread.specs.Dispatch.{view_of}
 use Rattle.tn_thread.specs.Sight.{Sight}
-use Rattle.tn_thread.specs.Step.{Stepped, runnable}
+use Rattle.tn_thread.specs.Step.{runnable}
 use Rattle.tn_tile.specs.Rows.{told}
 use Rattle.tn_tile.specs.Step.{due_by}
 use Rattle.tn_letters.specs.declared.steps.BagStep.{BagStep}
@@ -24,7 +24,6 @@ use Rattle.tn_letters.specs.declared.steps.Seen.{Seen}
 use Rattle.tn_letters.specs.Machine.{BagRun, Happens as Steps, MayStep, answer, ended_by, own_step, sent_by, sight, with_own_step}
 use Rattle.tn_letters.specs.State.{BagState, Program, Same}
 use Rattle.polite_edges.specs.declared.deed.Deed.{Deed}
-use Rattle.polite_edges.specs.declared.deed.Deed.TheVariants.{Announced}
 use Rattle.polite_edges.specs.Deeds.{added, deed_of, value_of}
 use Rattle.polite_edges.specs.Layout.{Layout}
 use Rattle.polite_edges.specs.Runs.{FewSteps, IsAwait, deed_at, deeds_after, dispatch_deed, doer_of, thread_deed, unless_trap}
@@ -33,12 +32,12 @@ use Rattle.polite_edges.proofs.Joining.{Beside, Inv, Premises, Shows, event_keep
 use Rattle.polite_edges.proofs.Late.{NodeLate, Silent}
 use Rattle.polite_edges.proofs.Nodes.{Has, Node}
 use Rattle.polite_edges.proofs.Scans.{IfOf, deed_is_of, value_kept}
-use Rattle.polite_edges.proofs.Shown.{CarriedBy, Shown}
+use Rattle.polite_edges.proofs.Shown.{Shown}
 use Rattle.polite_live.proofs.Courses.{AllClose, event_closes}
 use Rattle.polite_live.proofs.Joined.{bag_next, freed_beside, hand_beside, idle_beside, private_beside, put_at, put_beside, run_rises, same_inv, same_shows, sent_beside}
 use Rattle.polite_live.proofs.Keyless.{IsKeyless, next_keyless}
 use Rattle.polite_live.proofs.Letters.{ended_flight, for_threads, is_for_thread, sent_to_host, taken_out}
-use Rattle.polite_live.proofs.Steps.{EndsSo, IsEnd, StepWaits, WaitsSo, next_waits}
+use Rattle.polite_live.proofs.Steps.{EndsSo, IsEnd, WaitsSo, next_waits}
 
 -- ---- what holds
 

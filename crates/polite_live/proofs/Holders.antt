@@ -1,10 +1,9 @@
 -- A thread that holds a slot, or is owed a slot, can make a step.
-use Rattle.std.proofs.Common.{ℕ, ◌≡◌, ◌⊎◌, ◌==◌, ◌&&◌, ◌||◌, ◌∙◌, Bool, true, false, cond, List, [], ◌∷◌, refl, sym, ap, subst, inl, inr, Option, Some, None, is_some}
+use Rattle.std.proofs.Common.{ℕ, ◌≡◌, ◌==◌, ◌&&◌, ◌||◌, ◌∙◌, Bool, true, false, cond, List, ◌∷◌, refl, sym, ap, subst, inl, inr, Option, Some, None, is_some}
 use Rattle.std.specs.Prelude.{bit_and}
 use Rattle.std.proofs.lemmas.Bool.{and_from, eq-eqb, or_right}
 use Rattle.polite_switch.specs.declared.course.Hand.{Hand}
 use Rattle.polite_switch.specs.SwitchModel.{SwitchModel}
-use Rattle.polite_switch.specs.Table.{is_host}
 use Rattle.tn_base.specs.declared.message.Letter.{Letter}
 use Rattle.tn_thread.specs.declared.state.ThreadState.{ThreadState}
 use Rattle.tn_thread.specs.declared.state.ThreadState.TheVariants as state
@@ -15,7 +14,7 @@ use Rattle.polite_edges.specs.declared.deed.Deed.{Deed}
 use Rattle.polite_edges.specs.Deeds.{value_of}
 use Rattle.polite_edges.specs.Layout.{Layout, device_count}
 use Rattle.polite_edges.proofs.Fine.{HandFits, NodeFine, Resting, StatusFits, answer_of}
-use Rattle.polite_edges.proofs.Nodes.{Answered, Idling, Node}
+use Rattle.polite_edges.proofs.Nodes.{Idling, Node}
 use Rattle.polite_edges.proofs.Shown.{CarriedBy, Carries, Shown, StateShown}
 use Rattle.polite_flow.specs.Threads.{GoesOn}
 use Rattle.polite_live.proofs.Courses.{Closing, NodeCloses, some_either}

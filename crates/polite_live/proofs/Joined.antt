@@ -1,11 +1,10 @@
 -- Each step of the bag machine of a graph is an event of nodes. These lemmas are private in `polite_edges` (`Joining`), and stand here a second time.
-use Rattle.std.proofs.Common.{ℕ, zero, suc, ◌+◌, ◌/◌, ◌^◌, ◌<◌, ◌≤◌, ◌≡◌, ◌≢◌, ◌⊎◌, ◌∙◌, cond, Bool, true, false, List, [], ◌∷◌, length, refl, sym, ap, subst, inl, inr, arith, Option, Some, None}
-use Rattle.std.specs.Prelude.{is_some, map, slice_get, unwrap_or}
+use Rattle.std.proofs.Common.{ℕ, zero, suc, ◌+◌, ◌^◌, ◌<◌, ◌≤◌, ◌≡◌, ◌≢◌, ◌⊎◌, ◌∙◌, cond, Bool, true, false, List, [], ◌∷◌, length, refl, sym, ap, subst, inl, inr, arith, Option, Some, None}
+use Rattle.std.specs.Prelude.{is_some, map, unwrap_or}
 use Rattle.std.specs.List.{AllByRecursion, list_all, range_with_len}
 use Rattle.std.proofs.lemmas.Bool.{and_cases, cases_eq, eq-eqb, ne_eqb}
 use Rattle.std.proofs.lemmas.List.Sums.{sum_by-cons}
 use Rattle.std.specs.Option.{ForSome}
-use Rattle.polite_routes.specs.Hops.{arrives}
 use Rattle.polite_switch.specs.declared.course.Call.{Call}
 use Rattle.polite_switch.specs.Device.{device_at, key_at}
 use Rattle.polite_switch.specs.DeviceModel.{DeviceModel}
@@ -32,21 +31,17 @@ use Rattle.tn_tile.proofs.Moved.{next_fits}
 use Rattle.tn_letters.specs.declared.steps.BagStep.{BagStep}
 use Rattle.tn_letters.specs.declared.steps.BagStep.TheVariants as bag
 use Rattle.tn_letters.specs.declared.steps.Seen.{Seen}
-use Rattle.tn_letters.specs.Letters.{Takes, board_of, host_address}
+use Rattle.tn_letters.specs.Letters.{Takes, host_address}
 use Rattle.tn_letters.specs.Machine.{Allows, BagRun, Happens as Steps, IsAllowed, IsAtRest, IsPrivate, MayStep, addresses, announced, answer, ended_by, freed, handed, own_step, sent_by, sight, with_own_step}
 use Rattle.tn_letters.specs.State.{BagState, Program, Same, put}
 use Rattle.polite_edges.specs.declared.deed.Deed.{Deed}
 use Rattle.polite_edges.specs.declared.deed.Deed.TheVariants.{Announced}
 use Rattle.polite_edges.specs.Deeds.{Item, added}
 use Rattle.polite_edges.specs.Layout.{AllRouted, IsKeyOf, Layout}
-use Rattle.polite_edges.specs.Runs.{FewSteps, IsAwait, deed_at, deeds_after, thread_deed}
+use Rattle.polite_edges.specs.Runs.{IsAwait, deed_at, thread_deed}
 use Rattle.polite_edges.proofs.Bags.{bag_weighs}
-use Rattle.polite_edges.proofs.Fine.{Fine}
-use Rattle.polite_edges.proofs.Keeps.{keeps, keeps_late}
-use Rattle.polite_edges.proofs.Late.{Late}
 use Rattle.polite_edges.proofs.Leaving.{host_brings}
-use Rattle.polite_edges.proofs.Nodes.{Dead, Does, Drop, Event, Goes, Happens, Has, Idling, Node, Nothing, Rests, SameFlight, Sees, World, brings, flying, status_by}
-use Rattle.polite_edges.proofs.Numbers.{Numbers, keeps_numbers}
+use Rattle.polite_edges.proofs.Nodes.{Dead, Does, Drop, Event, Goes, Happens, Has, Idling, Node, Nothing, Rests, SameFlight, Sees, brings, flying, status_by}
 use Rattle.polite_edges.proofs.Shown.{Asked, Hands, Local, SeenIs, Shown, StateShown, at_thread}
 use Rattle.polite_edges.proofs.Stepping.{step_leaves}
 use Rattle.polite_edges.proofs.Threads.{Listed}

@@ -1,5 +1,5 @@
 -- A thread whose softswitch has no send by a key to make sends by no key.
-use Rattle.std.proofs.Common.{ℕ, ◌≡◌, ◌==◌, ◌/◌, Bool, true, false, cond, refl, sym, ap, ◌∙◌, subst, List, Option, Some, None, is_some, slice_get}
+use Rattle.std.proofs.Common.{ℕ, ◌≡◌, ◌==◌, ◌/◌, Bool, true, false, cond, refl, sym, ap, subst, List, Option, Some, None, is_some, slice_get}
 use Rattle.polite_switch.specs.declared.action.Action.{Action}
 use Rattle.polite_switch.specs.declared.action.Action.TheVariants as action
 use Rattle.polite_switch.specs.declared.action.SwitchView.{SwitchView}
@@ -25,7 +25,7 @@ use Rattle.tn_base.specs.declared.op.Op.TheVariants as op
 use Rattle.tn_thread.specs.declared.state.ThreadState.{ThreadState}
 use Rattle.tn_thread.specs.declared.state.ThreadState.TheVariants as state
 use Rattle.tn_thread.specs.declared.thread.Thread.{Thread}
-use Rattle.tn_thread.specs.Command.{handed, sent_off}
+use Rattle.tn_thread.specs.Command.{handed}
 use Rattle.tn_thread.specs.Dispatch.{dispatch, does, view_of}
 use Rattle.tn_thread.specs.Sight.{Sight}
 use Rattle.tn_thread.specs.Step.{Stepped}

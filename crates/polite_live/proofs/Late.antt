@@ -1,5 +1,5 @@
 -- After an announcement of 2 each letter that stands on the machine is for the host.
-use Rattle.std.proofs.Common.{ℕ, ◌+◌, ◌≡◌, ◌==◌, ◌∙◌, not, cond, Bool, true, false, List, [], ◌∷◌, refl, sym, arith}
+use Rattle.std.proofs.Common.{ℕ, ◌≡◌, ◌==◌, ◌∙◌, not, cond, Bool, true, false, List, [], ◌∷◌, refl, sym, arith}
 use Rattle.std.specs.List.{AllByRecursion}
 use Rattle.std.proofs.lemmas.Bool.{eqb-true}
 use Rattle.tn_base.specs.declared.event.Event.{Event}
@@ -8,7 +8,7 @@ use Rattle.tn_letters.specs.Letters.{Takes, host_address}
 use Rattle.tn_letters.specs.Standing.{standing_letters}
 use Rattle.tn_rows.specs.WorldView.{WorldView}
 use Rattle.polite_edges.specs.Deeds.{value_of}
-use Rattle.polite_edges.specs.Histories.{GraphHistory, history_deeds}
+use Rattle.polite_edges.specs.Histories.{history_deeds}
 use Rattle.polite_edges.specs.Layout.{Layout}
 use Rattle.polite_live.specs.Live.{IsForHost, NoLettersComeAfterTwo}
 use Rattle.polite_live.proofs.Letters.{for_threads, for_threads-cons, is_for_thread, one}

@@ -1,5 +1,5 @@
 -- A thread once a release that is under way is over: it is as it is now, or it is idle now and answered then.
-use Rattle.std.proofs.Common.{ℕ, ◌≡◌, ◌≤◌, ◌<◌, ◌⊎◌, ◌∙◌, Bool, true, false, List, get_or, refl, sym, ap, subst, inl, inr}
+use Rattle.std.proofs.Common.{ℕ, ◌≡◌, ◌⊎◌, ◌∙◌, true, List, get_or, refl, sym, ap, subst, inl, inr}
 use Rattle.std.proofs.lemmas.Bool.{cases_lt, cond_both}
 use Rattle.tn_base.specs.Address.{place_in_tile}
 use Rattle.tn_detect.specs.declared.phase.Phase.{Phase}
@@ -8,7 +8,6 @@ use Rattle.tn_detect.specs.Notes.{value_of}
 use Rattle.tn_rows.specs.PartView.{PartView, TileV, RouterV, LinkV, HostV, DetectorV, AbsentV}
 use Rattle.tn_rows.specs.Visited.{released_part}
 use Rattle.tn_rows.specs.WorldView.{WorldView}
-use Rattle.tn_thread.specs.declared.state.ThreadState.{ThreadState}
 use Rattle.tn_thread.specs.declared.state.ThreadState.TheVariants as state
 use Rattle.tn_thread.specs.declared.thread.Thread.{Thread}
 use Rattle.tn_thread.specs.Step.{is_idle}

@@ -18,7 +18,6 @@ use Rattle.tn_rows.specs.PartView.{PartView, TileV, RouterV, LinkV, HostV, Detec
 use Rattle.tn_rows.specs.Runs.{Walk}
 use Rattle.tn_rows.specs.Visited.{released_part}
 use Rattle.tn_rows.specs.WorldView.{WorldView}
-use Rattle.tn_thread.specs.declared.state.ThreadState.{ThreadState}
 use Rattle.tn_thread.specs.declared.thread.Thread.{Thread}
 use Rattle.tn_thread.specs.Step.{is_idle}
 use Rattle.tn_tile.specs.Rows.{told}
@@ -39,13 +38,12 @@ use Rattle.tn_letters.proofs.Meaning.{bag_run, event_arrives}
 use Rattle.tn_letters.proofs.Settling.{settled_stays}
 use Rattle.tn_letters.proofs.Starts.{good_start}
 use Rattle.tn_letters.proofs.Walks.{run_walk}
-use Rattle.polite_edges.specs.declared.deed.Deed.{Deed}
 use Rattle.polite_edges.specs.Histories.{GraphHistory, history_deeds}
 use Rattle.polite_edges.specs.Layout.{AllRouted, IsPlaced, Layout}
 use Rattle.polite_edges.specs.Runs.{FewSteps, GraphRun, IsFreshThread, IsGraphStart, deeds_in, deeds_of}
 use Rattle.polite_edges.proofs.Joining.{Inv, Premises, Shows, program, world}
 use Rattle.polite_edges.proofs.Keeps.{Starting, starts, starts_late}
-use Rattle.polite_edges.proofs.Nodes.{Going, Has, Node}
+use Rattle.polite_edges.proofs.Nodes.{Going, Node}
 use Rattle.polite_edges.proofs.Numbers.{start_numbers}
 use Rattle.polite_edges.proofs.Replaying.{agrees_refl, run_replays}
 use Rattle.polite_edges.proofs.Shown.{CarriedBy, Carries, Shown, StateShown}

@@ -1,5 +1,5 @@
 -- A tile without a free slot has a thread that can make a step.
-use Rattle.std.proofs.Common.{ℕ, zero, suc, ◌+◌, ◌≡◌, ◌≢◌, ◌≤◌, ◌<◌, ◌⊎◌, ◌==◌, ◌∙◌, Bool, true, false, cond, IsTrue, List, [], ◌∷◌, length, get_or, refl, sym, ap, subst, inl, inr, arith, Option, Some, None, is_some, nat_lt}
+use Rattle.std.proofs.Common.{ℕ, zero, suc, ◌≡◌, ◌<◌, ◌⊎◌, ◌∙◌, true, cond, IsTrue, List, [], ◌∷◌, length, get_or, refl, sym, ap, subst, inl, inr, arith, Some, None, is_some}
 use Rattle.std.specs.Int.{bit_at}
 use Rattle.std.proofs.lemmas.Bool.{and_from, cases_lt, eq-eqb, lt-ltb}
 use Rattle.std.proofs.lemmas.Bool.Decides.{nat_tests}
@@ -7,15 +7,14 @@ use Rattle.std.proofs.lemmas.List.{get_or_past}
 use Rattle.tn_base.specs.declared.event.Event.{Event}
 use Rattle.tn_base.specs.declared.message.Letter.{Letter}
 use Rattle.tn_base.specs.declared.shape.ShapeNumbers.{ShapeNumbers}
-use Rattle.tn_base.specs.Address.{has_thread, has_tile, in_tile, place_in_tile, tile_threads}
-use Rattle.tn_base.specs.Shape.{WithinLimits}
+use Rattle.tn_base.specs.Address.{has_thread, has_tile, in_tile, tile_threads}
 use Rattle.tn_base.proofs.TilePlaces.{place_back, place_there}
 use Rattle.tn_letters.specs.Letters.{host_address}
 use Rattle.tn_letters.specs.Settled.{settled}
 use Rattle.tn_letters.specs.Tiles.{held_in, letter_in, thread_in, thread_of}
 use Rattle.tn_letters.proofs.Lift.{Good, GoodTile, On, tile_on}
-use Rattle.tn_letters.proofs.Simulate.{Place, first_stands, read, sizes}
-use Rattle.tn_rows.specs.PartView.{PartView, TileV, AbsentV}
+use Rattle.tn_letters.proofs.Simulate.{Place, first_stands, read}
+use Rattle.tn_rows.specs.PartView.{TileV, AbsentV}
 use Rattle.tn_rows.specs.WorldView.{WorldView}
 use Rattle.tn_slots.specs.PoolModel.{PoolModel}
 use Rattle.tn_slots.specs.Pool.{first_free, queue_at, slot_at}
@@ -23,14 +22,12 @@ use Rattle.tn_slots.specs.Queues.{first_of}
 use Rattle.tn_slots.specs.WellKept.{Unused, WellKept, times}
 use Rattle.tn_slots.proofs.Lists.{bit_cases}
 use Rattle.tn_slots.proofs.Unused.{first_unused}
-use Rattle.tn_thread.specs.declared.thread.Thread.{Thread}
 use Rattle.tn_thread.specs.Step.{runnable}
 use Rattle.tn_tile.specs.Step.{sight_at, thread_at}
 use Rattle.tn_tile.specs.TileView.{TileView}
 use Rattle.polite_edges.specs.Deeds.{value_of}
-use Rattle.polite_edges.specs.Histories.{GraphHistory, history_deeds}
+use Rattle.polite_edges.specs.Histories.{history_deeds}
 use Rattle.polite_edges.specs.Layout.{Layout}
-use Rattle.polite_flow.specs.Able.{HasStep}
 use Rattle.polite_flow.specs.Threads.{GoesOn, ThreadGoesOn}
 use Rattle.polite_live.specs.Live.{FullTilesStep}
 use Rattle.polite_live.proofs.Holders.{Known, holder_runs, owed_runs}

@@ -7,7 +7,7 @@ use Rattle.polite_switch.specs.declared.row.Row.{Row}
 use Rattle.polite_switch.specs.declared.row.Row.TheVariants as row
 use Rattle.polite_switch.specs.Kept.{RowHolds}
 use Rattle.polite_switch.specs.SwitchModel.{SwitchModel}
-use Rattle.polite_switch.specs.Table.{acted, dispatched, done, fault_of, is_host, row_of, taken, unless_fault}
+use Rattle.polite_switch.specs.Table.{dispatched, done, fault_of, is_host, row_of, taken, unless_fault}
 use Rattle.polite_switch.proofs.Rows.{row_holds}
 use Rattle.rv_isa.specs.declared.instr.Instr.{Instr}
 use Rattle.tn_base.specs.declared.event.Trap.{Trap}
@@ -18,7 +18,7 @@ use Rattle.tn_base.specs.declared.op.Op.TheVariants as op
 use Rattle.tn_thread.specs.declared.state.ThreadState.{ThreadState}
 use Rattle.tn_thread.specs.declared.state.ThreadState.TheVariants as state
 use Rattle.tn_thread.specs.declared.thread.Thread.{Thread}
-use Rattle.tn_thread.specs.Command.{given_up, handed, sent_by, sent_off}
+use Rattle.tn_thread.specs.Command.{handed, sent_by, sent_off}
 use Rattle.tn_thread.specs.Dispatch.{dispatch, does, view_of}
 use Rattle.tn_thread.specs.Sight.{Sight}
 use Rattle.tn_thread.specs.Step.{Stepped, runnable}
