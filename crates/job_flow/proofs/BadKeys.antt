@@ -1,6 +1,6 @@
--- On a machine that flows no event is the last of a run for a bad key.
+-- On a machine that flows no run ends with a bad key, and none is jammed if it goes on.
 use Rattle.std.proofs.Common.{ℕ, ◌≡◌, ◌==◌, Bool, true, false, cond, refl, sym, subst, List, Option, Some, None, option_map}
-use Rattle.std.specs.Prelude.{option_and_then, slice_get}
+use Rattle.std.specs.Prelude.{MatchOption, is_some, option_and_then, slice_get}
 use Rattle.std.proofs.lemmas.Option.{get_or_from_slice_get}
 use Rattle.tn_base.specs.declared.event.Event.{Event}
 use Rattle.tn_base.specs.declared.event.Event.TheVariants as event
@@ -13,6 +13,7 @@ use Rattle.tn_detect.specs.declared.answer.Answer.{Answer}
 use Rattle.tn_detect.specs.declared.answer.Answer.TheVariants as answer
 use Rattle.tn_keys.specs.Tables.{Table}
 use Rattle.tn_rows.specs.Ends.{bad_key_on, done_on, done_with, ended_by, ended_on, final_after, final_of, spent_by}
+use Rattle.tn_rows.specs.Events.{Rests}
 use Rattle.tn_rows.specs.PartView.{PartView, TileV, RouterV, LinkV, HostV, DetectorV, AbsentV}
 use Rattle.tn_rows.specs.Places.{detector_part, part_of}
 use Rattle.tn_rows.specs.WorldView.{WorldView}
@@ -21,16 +22,14 @@ use Rattle.tn_thread.specs.declared.state.ThreadState.TheVariants as state
 use Rattle.tn_tile.specs.Rows.{is_here}
 use Rattle.tn_tile.specs.Step.{thread_at}
 use Rattle.polite_flow.specs.Flowing.{IsFlowing}
+use Rattle.polite_flow.specs.Standing.{IsEnabled}
 use Rattle.polite_flow.specs.World.{PartOnWay}
+use Rattle.job_flow.specs.Laws.{IsProper}
 
--- no bad key
+-- no final event, or a proper outcome
 abbrev IsOther : Option Outcome → Type 0
 IsOther None = Unit {0}
-IsOther (Some outcome.Done) = Unit {0}
-IsOther (Some outcome.Jammed) = Unit {0}
-IsOther (Some (outcome.Trapped t why)) = Unit {0}
-IsOther (Some (outcome.Spent t)) = Unit {0}
-IsOther (Some (outcome.BadKey key)) = ⊥
+IsOther (Some f) = IsProper f
 
 each_part : (f : PartView → Option Outcome) (o : Option PartView) → ((x : PartView) → o ≡ Some x → IsOther (f x)) → IsOther (option_and_then f o)
 each_part f None each = tt
@@ -102,3 +101,11 @@ after_other tables (Some e) w f = event_other tables e w f
 
 pub no_bad_key : (tables : List Table) (last : Option Event) (w : WorldView) (key : ℕ) → IsFlowing tables w → final_after last w ≡ Some (outcome.BadKey key) → ⊥
 no_bad_key tables last w key f e = subst IsOther e (after_other tables last w f)
+
+not_resting : (w : WorldView) (P : Type 0) → IsEnabled w → Rests w → P
+not_resting w P goes rests = let none = rests goes.0 in let some = goes.1 in let x = ap (λ (o : Option WorldView). is_some o) none in absurd (cc (some, x))
+
+-- the outcome of a run that goes on unless it is over
+pub proper : (tables : List Table) (last : Option Event) (w : WorldView) (o : Option Outcome) (out : Outcome) → final_after last w ≡ o → IsFlowing tables w → (o ≡ None → IsEnabled w) → MatchOption o (Rests w × (out ≡ outcome.Jammed)) (λ f. out ≡ f) → IsProper out
+proper tables last w None out e f goes m = not_resting w (IsProper out) (goes refl) m.0
+proper tables last w (Some over) out e f goes m = subst IsProper (sym m) (subst IsOther e (after_other tables last w f))

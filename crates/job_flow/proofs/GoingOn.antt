@@ -19,14 +19,16 @@ use Rattle.tn_rows.specs.Ends.{final_after, last_of}
 use Rattle.tn_rows.specs.PartView.{PartView, TileV, RouterV, LinkV, HostV, DetectorV, AbsentV}
 use Rattle.tn_rows.specs.Runs.{Run, Walk}
 use Rattle.tn_rows.specs.WorldView.{WorldView}
+use Rattle.tn_slots.specs.Pool.{first_free}
 use Rattle.tn_tile.specs.TileView.{TileView}
+use Rattle.polite_flow.specs.Able.{HasStep}
 use Rattle.polite_flow.specs.Always.{PartGoesOn}
 use Rattle.polite_flow.specs.Flowing.{IsFlowStart}
 use Rattle.polite_flow.specs.Sending.{AreSenders}
 use Rattle.polite_flow.specs.Standing.{IsEnabled}
 use Rattle.polite_flow.specs.Threads.{ThreadGoesOn}
 use Rattle.polite_flow.proofs.Walked.{walks_go_on}
-use Rattle.job_flow.specs.Serves.{PartServed, PartServes}
+use Rattle.job_flow.specs.Serves.{PartServes}
 use Rattle.job_flow.proofs.Carried.{walks_carry}
 use Rattle.job_flow.proofs.Fuel.{AllFuel}
 use Rattle.job_flow.proofs.Keeping.{TileKeeps}
@@ -90,16 +92,28 @@ each_thread start end history p k v begins senders run over is low =
     let count = l.count in
     thread_goes_on v.plan.shape.fuel k v.now l.keeps (omega arith) (l.fuel k (omega arith))
 
-serves : (x : PartView) → PartLives x → PartServed x → PartServes x
-serves (TileV v) l s = let count = l.count in record { threads = λ k low. l.fuel k (omega (arith, count, low)); served = s }
+-- a tile without a free slot has a thread that can make a step, if each thread goes on
+abbrev pub IsServed : TileView → Type 0
+IsServed v = ((k : ℕ) → k < tile_threads v.plan.shape → ThreadGoesOn v.plan.shape.fuel k v.now) → first_free v.now.pool ≡ None → HasStep v
+
+serves : (x : PartView) → PartLives x → ((v : TileView) → x ≡ TileV v → IsServed v) → PartServes x
+serves (TileV v) l s =
+    let count = l.count in
+    record {
+      threads = λ k low. l.fuel k (omega (arith, count, low));
+      served = s v refl (λ k low. thread_goes_on v.plan.shape.fuel k v.now l.keeps (omega (arith, count, low)) (l.fuel k (omega (arith, count, low))));
+    }
 serves (RouterV v) l s = tt
 serves (LinkV v) l s = tt
 serves (HostV h) l s = tt
 serves (DetectorV v) l s = tt
 serves AbsentV l s = tt
 
-pub ends_or_goes_on : (start end : WorldView) (history : List Event) → IsFlowStart start → AreSenders (tables_of start) start → Run start history end → length history < 2 ^ 50 → ((p : ℕ) → PartServed (get_or end.parts p AbsentV)) → IsSome (final_after (last_of history) end) ⊎ IsEnabled end
-ends_or_goes_on start end history begins senders run few served = by (final_after (last_of history) end) refl where
-  by : (o : Option Outcome) → final_after (last_of history) end ≡ o → IsSome o ⊎ IsEnabled end
-  by (Some outcome) e = inl refl
-  by None e = inr (goes_on start end history begins senders (run_walk start end history run) few (λ p. serves (get_or end.parts p AbsentV) (run_lives start end history begins.begins senders run e p) (served p)))
+-- a run that is not over goes on
+pub run_goes_on : (start end : WorldView) (history : List Event) → IsFlowStart start → AreSenders (tables_of start) start → Run start history end → length history < 2 ^ 50 → ((p : ℕ) (v : TileView) → get_or end.parts p AbsentV ≡ TileV v → IsServed v) → final_after (last_of history) end ≡ None → IsEnabled end
+run_goes_on start end history begins senders run few served over =
+    goes_on start end history begins senders (run_walk start end history run) few (λ p. serves (get_or end.parts p AbsentV) (run_lives start end history begins.begins senders run over p) (served p))
+
+pub ends_or_goes_on : (o : Option Outcome) (w : WorldView) → (o ≡ None → IsEnabled w) → IsSome o ⊎ IsEnabled w
+ends_or_goes_on (Some outcome) w goes = inl refl
+ends_or_goes_on None w goes = inr (goes refl)

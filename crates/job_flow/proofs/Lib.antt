@@ -5,6 +5,7 @@ pub mod Devices
 pub mod Drops
 pub mod Fuel
 pub mod GoingOn
+pub mod Jobs
 pub mod Keeping
 pub mod Keys
 pub mod Tables

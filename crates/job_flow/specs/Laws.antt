@@ -1,9 +1,10 @@
 -- The packets of a graph's job flow: no router finds a bad key, and an event is enabled at each moment.
 use Rattle.std.specs.Prelude.{ℕ, ◌≡◌, ◌<◌, ◌⊎◌, ◌^◌, List, None, Some, IsSome, length, slice_index_or}
 use Rattle.tn_base.specs.declared.event.Event.{Event}
+use Rattle.tn_base.specs.declared.event.Outcome.{Outcome}
 use Rattle.tn_base.specs.declared.event.Outcome.TheVariants as outcome
 use Rattle.tn_base.specs.Address.{tile_threads}
-use Rattle.tn_rows.specs.Ends.{final_after, last_of}
+use Rattle.tn_rows.specs.Ends.{IsOutcome, final_after, last_of}
 use Rattle.tn_rows.specs.PartView.{TileV, AbsentV}
 use Rattle.tn_rows.specs.Runs.{Run, Walk}
 use Rattle.tn_rows.specs.WorldView.{WorldView}
@@ -14,7 +15,7 @@ use Rattle.job_text.specs.declared.job.Job.{Job}
 use Rattle.polite_flow.specs.Flowing.{IsFlowing}
 use Rattle.polite_flow.specs.Standing.{IsEnabled}
 use Rattle.polite_flow.specs.Threads.{ThreadGoesOn}
-use Rattle.job_flow.specs.Serves.{PartServed, PartServes}
+use Rattle.job_flow.specs.Serves.{PartServes}
 
 -- each walk of an accepted job with a graph keeps its machine flowing, with the tables of the graph's routes
 abbrev pub EachGraphJobFlows : Type 0
@@ -32,7 +33,18 @@ EachGraphJobGoesOn = (job : Job) (m : Mapped) (start end : WorldView) (history :
 abbrev pub EachThreadGoesOn : Type 0
 EachThreadGoesOn = (job : Job) (m : Mapped) (start end : WorldView) (history : List Event) (p k : ℕ) (v : TileView) → IsGraphJob job m start → Run start history end → final_after (last_of history) end ≡ None → slice_index_or end.parts p AbsentV ≡ TileV v → k < tile_threads v.plan.shape → ThreadGoesOn v.plan.shape.fuel k v.now
 
--- each run of such a job of fewer than 2 ^ 50 events is over, or an event is enabled, if each tile without a free slot has a thread that can
--- make a step
+-- each run of such a job of fewer than 2 ^ 50 events is over, or an event is enabled
+abbrev pub NoGraphJobJams : Type 0
+NoGraphJobJams = (job : Job) (m : Mapped) (start end : WorldView) (history : List Event) → IsGraphJob job m start → Run start history end → length history < 2 ^ 50 → IsSome (final_after (last_of history) end) ⊎ IsEnabled end
+
+-- an outcome of such a run: done, trapped or spent, and neither jammed nor a bad key
+abbrev pub IsProper : Outcome → Type 0
+IsProper outcome.Done = Unit {0}
+IsProper outcome.Jammed = ⊥
+IsProper (outcome.Trapped t why) = Unit {0}
+IsProper (outcome.Spent t) = Unit {0}
+IsProper (outcome.BadKey key) = ⊥
+
+-- the outcome of each run of such a job of fewer than 2 ^ 50 events is proper
 abbrev pub EachGraphJobEnds : Type 0
-EachGraphJobEnds = (job : Job) (m : Mapped) (start end : WorldView) (history : List Event) → IsGraphJob job m start → Run start history end → length history < 2 ^ 50 → ((p : ℕ) → PartServed (slice_index_or end.parts p AbsentV)) → IsSome (final_after (last_of history) end) ⊎ IsEnabled end
+EachGraphJobEnds = (job : Job) (m : Mapped) (start end : WorldView) (history : List Event) (o : Outcome) → IsGraphJob job m start → Run start history end → length history < 2 ^ 50 → IsOutcome history end o → IsProper o

@@ -1,11 +1,12 @@
 //! Laws of the packets of graph jobs. A law answers nothing: its contract is what it says.
 
 ghost use Rattle.job_flow.specs.Carried.{WalksCarry};
-ghost use Rattle.job_flow.specs.Laws.{EachGraphJobEnds, EachGraphJobFlows, EachGraphJobGoesOn, EachThreadGoesOn, NoGraphJobFindsBadKey};
+ghost use Rattle.job_flow.specs.Laws.{EachGraphJobEnds, EachGraphJobFlows, EachGraphJobGoesOn, EachThreadGoesOn, NoGraphJobFindsBadKey, NoGraphJobJams};
 
 use job_bag::laws::law_starts;
 use job_edges::laws::law_graph_machine;
 use polite_flow::laws::law_graphs;
+use polite_live::laws::law_served;
 
 /// Along each walk of an accepted job with a graph, from its start, all packets are on their way: the ranks of the places to which a packet
 /// goes fall. So no walk of such a job ends with a bad key.
@@ -44,12 +45,14 @@ pub fn law_graph_threads()
     law_graphs();
 }
 
-/// Each run of fewer than 2^50 events of an accepted job with a graph is over, or an event is enabled, if each tile without a free slot has a
-/// thread that can make a step.
-pub fn law_graph_jobs_end()
-    ensures { EachGraphJobEnds }
+/// No run of fewer than 2^50 events of an accepted job with a graph jams: the run is over, or an event is enabled. So its outcome is that all
+/// threads ended, that a thread trapped, or that a thread used its steps up.
+pub fn law_graph_jobs_never_jam()
+    ensures goes_on { NoGraphJobJams }
+    ensures outcome { EachGraphJobEnds }
 {
     law_graph_machine();
     law_starts();
     law_graphs();
+    law_served();
 }
