@@ -1,5 +1,5 @@
 -- On a machine that flows no run ends with a bad key, and none is jammed if it goes on.
-use Rattle.std.proofs.Common.{ℕ, ◌≡◌, ◌==◌, Bool, true, false, cond, refl, sym, subst, List, Option, Some, None, option_map}
+use Rattle.std.proofs.Common.{ℕ, ◌≡◌, ap, ◌==◌, Bool, true, false, cond, refl, sym, subst, List, Option, Some, None, option_map}
 use Rattle.std.specs.Prelude.{MatchOption, is_some, option_and_then, slice_get}
 use Rattle.std.proofs.lemmas.Option.{get_or_from_slice_get}
 use Rattle.tn_base.specs.declared.event.Event.{Event}
