@@ -1,5 +1,5 @@
 -- A run of a graph's job that is not over goes on.
-use Rattle.std.proofs.Common.{ℕ, ◌≡◌, ◌<◌, ◌^◌, List, length, get_or, subst, Option, None}
+use Rattle.std.proofs.Common.{◌≡◌, ◌<◌, ◌^◌, List, length, None}
 use Rattle.tn_base.specs.declared.event.Event.{Event}
 use Rattle.tn_letters.specs.Law.{IsStart}
 use Rattle.tn_letters.specs.Tiles.{tables_of}
