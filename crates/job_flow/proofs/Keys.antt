@@ -1,25 +1,20 @@
 -- The threads of a graph's job may send by the keys of their pins.
-use Rattle.std.proofs.Common.{ℕ, zero, suc, ◌≡◌, ◌<◌, ◌+◌, ◌/◌, ◌%◌, ◌*◌, ◌∙◌, IsTrue, List, length, map, refl, sym, ap, subst, arith, slice_get, Option, Some, None, Ok, Err, Result}
+use Rattle.std.proofs.Common.{ℕ, zero, suc, ◌≡◌, ◌<◌, ◌+◌, ◌/◌, ◌%◌, ◌*◌, ◌∙◌, List, map, refl, sym, ap, subst, arith, slice_get, Option, Some, None, Ok}
 use Rattle.std.specs.List.{range_with_len}
 use Rattle.tn_base.specs.declared.message.Dest.TheVariants as dest
 use Rattle.tn_base.specs.declared.shape.ShapeNumbers.{ShapeNumbers}
-use Rattle.tn_base.specs.Address.{has_thread, tile_of}
-use Rattle.tn_keys.specs.Tables.{Table}
+use Rattle.tn_base.specs.Address.{tile_of}
 use Rattle.tn_letters.specs.Law.{IsStart}
 use Rattle.tn_letters.specs.Tiles.{tables_of}
 use Rattle.tn_rows.specs.WorldView.{WorldView}
 use Rattle.graph_text.specs.Graph.{pins_at}
-use Rattle.polite_place.specs.declared.placement.Seat.{Seat}
-use Rattle.polite_place.specs.Seats.{seat_of}
 use Rattle.polite_routes.specs.Answer.{pin_key}
 use Rattle.polite_routes.proofs.Serving.{all_served}
-use Rattle.polite_switch.specs.Device.{device_at, joined_key, key_at}
-use Rattle.polite_edges.specs.Layout.{IsKeyOf}
+use Rattle.polite_switch.specs.Device.{joined_key}
 use Rattle.polite_flow.specs.Graphs.{GraphFlows, KeysMaySend}
 use Rattle.polite_flow.specs.Law.{AreRoutes}
 use Rattle.polite_flow.specs.OnWay.{AreDirected, Fits as FitsPlace}
 use Rattle.polite_flow.specs.Places.{Bound, Pending, Tile, tile_named}
-use Rattle.polite_flow.specs.Sending.{MaySend}
 use Rattle.polite_flow.proofs.Routed.{are_routes}
 use Rattle.job_text.specs.declared.job.Job.{Job}
 use Rattle.job_faults.specs.declared.fault.LoadFault.{LoadFault}
@@ -29,7 +24,7 @@ use Rattle.job_faults.specs.Order.{load_fault, unless}
 use Rattle.job_faults.proofs.Fits.{fits}
 use Rattle.job_load.specs.Start.{start_of}
 use Rattle.job_load.proofs.Fits.{fits_machine}
-use Rattle.job_edges.specs.JobLayout.{layout_of, switch_at}
+use Rattle.job_edges.specs.JobLayout.{layout_of}
 use Rattle.job_edges.specs.Laws.{IsGraphJob, IsGraphMachine}
 use Rattle.job_flow.proofs.Devices.{all_pins, all_seated, device_is}
 use Rattle.job_flow.proofs.Tables.{tables_are}

@@ -36,3 +36,12 @@ PartServes (LinkV v) = Unit {0}
 PartServes (HostV s) = Unit {0}
 PartServes (DetectorV v) = Unit {0}
 PartServes AbsentV = Unit {0}
+
+-- if no slot of a tile is free, a thread of the tile can make a step
+abbrev pub PartServed : PartView → Type 0
+PartServed (TileV v) = first_free v.now.pool ≡ None → HasStep v
+PartServed (RouterV v) = Unit {0}
+PartServed (LinkV v) = Unit {0}
+PartServed (HostV s) = Unit {0}
+PartServed (DetectorV v) = Unit {0}
+PartServed AbsentV = Unit {0}
