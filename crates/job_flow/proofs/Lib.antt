@@ -1,0 +1,13 @@
+pub mod BadKeys
+pub mod Carried
+pub mod Crossed
+pub mod Devices
+pub mod Drops
+pub mod Fuel
+pub mod GoingOn
+pub mod Jobs
+pub mod Keeping
+pub mod Keys
+pub mod Tables
+pub mod Waiting
+pub mod Whole

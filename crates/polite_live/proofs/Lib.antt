@@ -1,0 +1,11 @@
+pub mod Courses
+pub mod Echo
+pub mod Holders
+pub mod Joined
+pub mod Keyless
+pub mod Late
+pub mod Letters
+pub mod Released
+pub mod Runs
+pub mod Served
+pub mod Steps
