@@ -28,8 +28,9 @@ use Rattle.job_faults.specs.Order.{mapped}
 use Rattle.job_faults.specs.Names.{fault_of_asm, job_said}
 use Rattle.map_text.specs.Text.{map_text}
 use Rattle.tn_run.specs.declared.texts.TextCommand.{TextCommand}
-use Rattle.tn_run.specs.declared.texts.TextCommand.TheVariants.{Asm, Check, Map, Show}
-use Rattle.tn_run.specs.Checked.{check_answer}
+use Rattle.tn_run.specs.declared.texts.TextCommand.TheVariants.{Asm, Check, Follow, Map, Show}
+use Rattle.tn_run.specs.Checked.{trace_answer}
+use Rattle.tn_run.specs.declared.checked.TraceCommand.TheVariants as trace
 use Rattle.tn_run.specs.Refusal.{refusal_text}
 
 -- The commands.
@@ -40,6 +41,7 @@ text_in command.Asm = Some Asm
 text_in command.Show = Some Show
 text_in command.Map = Some Map
 text_in command.Check = Some Check
+text_in (command.Follow origin number) = Some (Follow origin number)
 text_in other = None
 
 -- the command of words that are a form of `plain_top`
@@ -106,7 +108,8 @@ abbrev pub text_answer : TextCommand → List ℕ → Unit {0} → Status → Li
 text_answer Asm input kept status text = answer_by (asm_by (assembled 1 input)) ≡ (status, text)
 text_answer Show input kept status text = answer_by (shown_lines 1 (lines_of input)) ≡ (status, text)
 text_answer Map input kept status text = answer_by (map_of (job_said (lines_of input))) ≡ (status, text)
-text_answer Check input kept status text = check_answer input status text
+text_answer Check input kept status text = trace_answer trace.Check input status text
+text_answer (Follow origin number) input kept status text = trace_answer (trace.Follow origin number) input status text
 
 -- the answer of a command that made this text, or was refused
 abbrev pub AnswersMade : Result (Unit {0}) (Stop LoadFault) → List ℕ → Status → List ℕ → Type 0

@@ -11,7 +11,7 @@ ghost use Rattle.job_faults.specs.Names.{job_said};
 ghost use Rattle.tn_text.specs.Lines.{lines_of};
 ghost use Rattle.tn_run.specs.declared.texts.TextCommand.{TextCommand};
 
-use crate::checked::answer_check;
+use crate::checked::{TraceCommand, answer_trace};
 use crate::refusal::refused;
 use asm_build::assemble::assemble_text;
 use asm_build::show::show;
@@ -42,6 +42,11 @@ pub enum TextCommand {
     Map,
     /// Whether the events behind a job are a run of its machine.
     Check,
+    /// What the events behind a job do with the letters of a send.
+    Follow {
+        origin: u32,
+        number: u32,
+    },
 }
 
 /// What serves the commands on texts.
@@ -192,7 +197,10 @@ fn answer_text(alloc: Global, command: TextCommand, input: &[u8]) -> Result<Answ
         TextCommand::Asm => answer_asm(alloc, input),
         TextCommand::Show => answer_show(alloc, input),
         TextCommand::Map => answer_map(alloc, input),
-        TextCommand::Check => answer_check(alloc, input),
+        TextCommand::Check => answer_trace(alloc, TraceCommand::Check, input),
+        TextCommand::Follow { origin, number } => {
+            answer_trace(alloc, TraceCommand::Follow { origin, number }, input)
+        }
     }
 }
 
@@ -215,9 +223,9 @@ impl Service for TextService {
             Command::Show => Some(TextCommand::Show),
             Command::Map => Some(TextCommand::Map),
             Command::Check => Some(TextCommand::Check),
+            Command::Follow { origin, number } => Some(TextCommand::Follow { origin, number }),
             Command::Run { .. }
             | Command::Gen { .. }
-            | Command::Follow { .. }
             | Command::Bsp
             | Command::Wire { .. } => None,
         }
