@@ -27,6 +27,8 @@ use Rattle.job_faults.specs.declared.map.Mapped.{Mapped}
 use Rattle.job_faults.specs.Order.{mapped}
 use Rattle.job_faults.specs.Names.{fault_of_asm, job_said}
 use Rattle.map_text.specs.Text.{map_text}
+use Rattle.tn_run.specs.declared.texts.Making.{Making}
+use Rattle.tn_run.specs.declared.texts.Making.TheVariants as making
 use Rattle.tn_run.specs.declared.texts.TextCommand.{TextCommand}
 use Rattle.tn_run.specs.declared.texts.TextCommand.TheVariants.{Asm, Check, Follow, Map, Show}
 use Rattle.tn_run.specs.Checked.{trace_answer}
@@ -97,6 +99,13 @@ abbrev pub map_of : Result Job LoadFault → Result (List ℕ) LoadFault
 map_of (Ok job) = map_by job.numbers (mapped job)
 map_of (Err found) = Err found
 
+-- What a text becomes: a line for each command that makes a text of its input.
+
+abbrev pub made_of : Making → List ℕ → Result (List ℕ) LoadFault
+made_of making.Assembled input = asm_by (assembled 1 input)
+made_of making.Shown input = shown_lines 1 (lines_of input)
+made_of making.Mapped input = map_of (job_said (lines_of input))
+
 -- What a command answers.
 
 abbrev pub answer_by : Result (List ℕ) LoadFault → Status × List ℕ
@@ -105,9 +114,9 @@ answer_by (Err found) = (Refused, refusal_text found)
 
 -- a line for each command: the status and the text are its answer to the input
 abbrev pub text_answer : TextCommand → List ℕ → Unit {0} → Status → List ℕ → Type 0
-text_answer Asm input kept status text = answer_by (asm_by (assembled 1 input)) ≡ (status, text)
-text_answer Show input kept status text = answer_by (shown_lines 1 (lines_of input)) ≡ (status, text)
-text_answer Map input kept status text = answer_by (map_of (job_said (lines_of input))) ≡ (status, text)
+text_answer Asm input kept status text = answer_by (made_of making.Assembled input) ≡ (status, text)
+text_answer Show input kept status text = answer_by (made_of making.Shown input) ≡ (status, text)
+text_answer Map input kept status text = answer_by (made_of making.Mapped input) ≡ (status, text)
 text_answer Check input kept status text = trace_answer trace.Check input status text
 text_answer (Follow origin number) input kept status text = trace_answer (trace.Follow origin number) input status text
 

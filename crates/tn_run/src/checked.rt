@@ -1,15 +1,16 @@
 //! The commands `check` and `follow`: whether the events behind a job are a run of its machine, and what they do with the letters of a send.
 ghost use Rattle.std.specs.Option.{ForSome};
-ghost use Rattle.std.specs.Prelude.{◌≡◌, ◌+◌, ◌^◌, ◌<◌, ◌≤◌, ◌++◌, IfOk, Ok, codes, decimal, length, option_copied, option_map, true};
+ghost use Rattle.std.specs.Prelude.{◌≡◌, ◌+◌, ◌^◌, ◌<◌, ◌≤◌, ◌++◌, IfOk, Ok, codes, decimal, length, option_copied, option_map, slice_index_or, true};
 ghost use Rattle.tn_call.specs.Number.{tells};
 ghost use Rattle.tn_call.specs.declared.status.Status.TheVariants as Status;
 ghost use Rattle.tn_check.specs.Checks.{IsRun};
 ghost use Rattle.tn_follow.specs.Follow.{sightings};
 ghost use Rattle.tn_follow.specs.Printed.{sightings_text};
 ghost use Rattle.tn_run.specs.Checked.{AnswersEvents, AnswersRest, trace_answer};
+ghost use Rattle.tn_run.specs.Refusal.{refused_text};
 ghost use Rattle.tn_run.specs.declared.checked.TraceCommand.TheVariants as trace;
 ghost use Rattle.tn_text.specs.Lines.{lines_of};
-ghost use Rattle.tn_trace.specs.Parting.{Parts};
+ghost use Rattle.tn_trace.specs.Parting.{Parts, said_on};
 ghost use Rattle.tn_trace.specs.Reading.{events_of};
 
 use crate::machine::load_input;
@@ -76,6 +77,20 @@ fn followed(
     })
 }
 
+/// The refusal of the event behind so many others, which these lines say.
+fn not_enabled(
+    alloc: Global,
+    text: &[u8],
+    first: u32,
+    others: u64,
+) -> Result<Answer<()>, AllocError>
+    requires { first + length (lines_of text.now) < 2 ^ 32 }
+    ensures status { IfOk result (λ a. a.status ≡ Status.Refused) }
+    ensures text { IfOk result (λ a. a.text.items ≡ refused_text (slice_index_or (said_on first (lines_of text.now)) others 0) (codes "NotEnabled")) }
+{
+    refused_on(alloc, line_of(text, first, others), "NotEnabled", ())
+}
+
 /// The answer of `check` to the events of these lines, the first of which has the number `first`.
 fn answer_check(
     alloc: Global,
@@ -90,7 +105,7 @@ fn answer_check(
 {
     match check(alloc, start, events)? {
         Verdict::Run => accepted(alloc, events.len()),
-        Verdict::Refused { at } => { refused_on(alloc, line_of(text, first, at), "NotEnabled", ()) }
+        Verdict::Refused { at } => not_enabled(alloc, text, first, at),
     }
 }
 
@@ -110,7 +125,7 @@ fn answer_follow(
 {
     match check(alloc, start.copy()?, events)? {
         Verdict::Run => followed(alloc, start, events, origin, number),
-        Verdict::Refused { at } => { refused_on(alloc, line_of(text, first, at), "NotEnabled", ()) }
+        Verdict::Refused { at } => not_enabled(alloc, text, first, at),
     }
 }
 
