@@ -34,10 +34,7 @@ pub enum TraceCommand {
     /// Whether they are a run of its machine.
     Check,
     /// What they do with the letters of a send.
-    Follow {
-        origin: u32,
-        number: u32,
-    },
+    Follow { origin: u32, number: u32 },
 }
 
 /// The answer to a run of so many events.

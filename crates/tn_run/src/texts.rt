@@ -43,10 +43,7 @@ pub enum TextCommand {
     /// Whether the events behind a job are a run of its machine.
     Check,
     /// What the events behind a job do with the letters of a send.
-    Follow {
-        origin: u32,
-        number: u32,
-    },
+    Follow { origin: u32, number: u32 },
 }
 
 /// What a text becomes.
@@ -230,10 +227,7 @@ impl Service for TextService {
             Command::Map => Some(TextCommand::Map),
             Command::Check => Some(TextCommand::Check),
             Command::Follow { origin, number } => Some(TextCommand::Follow { origin, number }),
-            Command::Run { .. }
-            | Command::Gen { .. }
-            | Command::Bsp
-            | Command::Wire { .. } => None,
+            Command::Run { .. } | Command::Gen { .. } | Command::Bsp | Command::Wire { .. } => None,
         }
     }
 
