@@ -1,12 +1,11 @@
 -- Parts share no spots, so what is new in a machine is what is new on each part.
-use Rattle.std.proofs.Common.{◌≡◌, ◌≢◌, ◌∙◌, ◌⊎◌, inl, inr, ⊎_elim, ℕ, ◌+◌, ◌-◌, ◌<◌, ◌≤◌, zero, suc, ◌&&◌, ◌||◌, Bool, true, false, cond, eqb, List, [], ◌∷◌, ◌++◌, map, filter, Option, Some, None, refl, ap, sym, subst, arith}
+use Rattle.std.proofs.Common.{◌≡◌, ◌≢◌, ◌∙◌, ⊎_elim, ℕ, ◌+◌, ◌<◌, ◌≤◌, zero, suc, ◌&&◌, ◌||◌, Bool, true, false, cond, eqb, List, [], ◌∷◌, ◌++◌, map, filter, None, refl, ap, sym, subst, arith}
 use Rattle.std.specs.List.{flat_map, range_with_len}
 use Rattle.std.proofs.lemmas.Bool.{cases_lt, eqb-true, ne_eqb}
 use Rattle.std.proofs.lemmas.List.{append-nil}
 use Rattle.tn_base.specs.Address.{tile_of, tile_place}
 use Rattle.tn_base.specs.Parts.{part_count, tile_part}
 use Rattle.tn_base.specs.Shape.{WithinLimits}
-use Rattle.tn_base.specs.declared.event.Event.{Event}
 use Rattle.tn_base.specs.declared.message.Letter.{Letter}
 use Rattle.tn_base.specs.declared.shape.ShapeNumbers.{ShapeNumbers}
 use Rattle.tn_keys.specs.Copies.{each_below}
@@ -14,7 +13,6 @@ use Rattle.tn_letters.specs.Standing.{standing_on}
 use Rattle.tn_letters.specs.declared.place.Place.{Place}
 use Rattle.tn_letters.specs.declared.place.Place.TheVariants as place
 use Rattle.tn_quiet.proofs.Runs.{kept_at}
-use Rattle.tn_rows.specs.Events.{IsWorld, happened}
 use Rattle.tn_rows.specs.Places.{Places, Nowhere, One, Two, places}
 use Rattle.tn_rows.specs.Stamped.{touches}
 use Rattle.tn_rows.specs.WorldView.{WorldView}
@@ -23,7 +21,7 @@ use Rattle.tn_follow.proofs.Others.{leaves_others}
 use Rattle.tn_follow.proofs.Places.{stand_on_their_part}
 use Rattle.tn_follow.proofs.Staying.{none_new}
 use Rattle.tn_follow.specs.Apart.{HasNone}
-use Rattle.tn_follow.specs.Follow.{is_sent_by, new_spots, port_number, same_place, same_spot, spots, spots_in, with_first, without}
+use Rattle.tn_follow.specs.Follow.{is_sent_by, new_spots, same_place, same_spot, spots, spots_in, without}
 use Rattle.tn_follow.specs.Parts.{AreInOrder, AreOn, NewAtItsParts, NewByPart, new_at, new_on, part_at, spots_on}
 use Rattle.tn_follow.specs.declared.spots.Spot.{Spot}
 

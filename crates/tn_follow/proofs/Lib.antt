@@ -1,6 +1,7 @@
 pub mod Apart
 pub mod Each
 pub mod Ending
+pub mod Following
 pub mod Others
 pub mod Places
 pub mod Staying

@@ -1,12 +1,12 @@
 -- The letters that are listed on a part are in places on this part.
-use Rattle.std.proofs.Common.{◌≡◌, ◌∙◌, ℕ, ◌+◌, ◌*◌, ◌/◌, ◌<◌, ◌==◌, zero, suc, IsTrue, Bool, true, false, cond, List, [], ◌∷◌, ◌++◌, length, get_or, map, filter, Option, Some, None, refl, ap, sym, subst, arith}
+use Rattle.std.proofs.Common.{◌≡◌, ◌∙◌, ℕ, ◌+◌, ◌<◌, ◌==◌, zero, suc, IsTrue, Bool, true, false, cond, List, [], ◌∷◌, ◌++◌, length, get_or, map, filter, Option, Some, None, refl, ap, sym, subst, arith}
 use Rattle.std.specs.Prelude.{slice_get}
 use Rattle.std.specs.Int.{bit_at}
 use Rattle.std.specs.List.{flat_map, range_with_len}
 use Rattle.tn_base.proofs.Places.{orders_tiles}
 use Rattle.tn_base.proofs.TilePlaces.{place_back, tile_placed}
 use Rattle.tn_base.specs.Address.{has_tile, in_tile, tile_of, tile_place, tile_threads}
-use Rattle.tn_base.specs.Parts.{kind_of, part_count, tile_at, tile_part}
+use Rattle.tn_base.specs.Parts.{kind_of, tile_at, tile_part}
 use Rattle.tn_base.specs.Shape.{WithinLimits}
 use Rattle.tn_base.specs.declared.ids.TileId.{TileId}
 use Rattle.tn_base.specs.declared.message.Letter.{Letter}
@@ -15,11 +15,11 @@ use Rattle.tn_base.specs.declared.part.Kind.{Kind}
 use Rattle.tn_base.specs.declared.part.Kind.TheVariants as kind
 use Rattle.tn_base.specs.declared.port.Port.{Port}
 use Rattle.tn_base.specs.declared.shape.ShapeNumbers.{ShapeNumbers}
-use Rattle.tn_keys.specs.Copies.{Copy, each_below, only_if}
+use Rattle.tn_keys.specs.Copies.{each_below, only_if}
 use Rattle.tn_keys.specs.Reach.{Reach}
 use Rattle.tn_letters.proofs.PartKinds.{tile_part_is}
 use Rattle.tn_letters.specs.Letters.{letter_for, letters_to, link_board, packet_letters}
-use Rattle.tn_letters.specs.Standing.{copied, crossing_at, leaving_by, link_standing, out_by, out_standing, owed_standing, owed_to, part_standing, pending_of, pending_standing, ports, process_standing, router_standing, slots_standing, tile_standing, transit_by, transit_standing, waiting, work_by, works_from}
+use Rattle.tn_letters.specs.Standing.{crossing_at, leaving_by, link_standing, out_by, out_standing, owed_standing, owed_to, part_standing, pending_of, pending_standing, ports, process_standing, router_standing, slots_standing, tile_standing, transit_by, transit_standing, waiting, work_by, works_from}
 use Rattle.tn_letters.specs.Tiles.{letter_in, reach_of}
 use Rattle.tn_letters.specs.declared.place.Place.{Place}
 use Rattle.tn_letters.specs.declared.place.Place.TheVariants as place
@@ -28,15 +28,13 @@ use Rattle.tn_node.specs.PortRows.{at as waits_for}
 use Rattle.tn_router.specs.RouterView.{RouterView}
 use Rattle.tn_router.specs.Left.{copies_left, copies_out}
 use Rattle.tn_router.specs.declared.work.Work.{Work}
-use Rattle.tn_rows.specs.Events.{FitsKind, IsWorld}
+use Rattle.tn_rows.specs.Events.{FitsKind}
 use Rattle.tn_rows.specs.PartView.{PartView, TileV, RouterV, LinkV, HostV, DetectorV, AbsentV}
-use Rattle.tn_rows.specs.WorldView.{WorldView}
 use Rattle.tn_slots.specs.Pool.{slot_at}
 use Rattle.tn_tile.specs.Step.{pending_at}
 use Rattle.tn_tile.specs.TileView.{TileView}
 use Rattle.tn_follow.specs.Follow.{is_sent_by, spots_in}
 use Rattle.tn_follow.specs.Parts.{AreOn, StandOnTheirPart, part_at}
-use Rattle.tn_follow.specs.declared.spots.Spot.{Spot}
 
 -- each of these letters is in a place on this part
 abbrev Stand : ShapeNumbers → ℕ → List (Place × Letter) → Type 0

@@ -2,3 +2,4 @@ pub mod Apart
 pub mod Elsewhere
 pub mod Follow
 pub mod Parts
+pub mod Printed

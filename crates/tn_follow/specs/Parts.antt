@@ -1,5 +1,6 @@
 -- What is new on each part of a machine.
-use Rattle.std.specs.Prelude.{ℕ, ◌≡◌, ◌<◌, List, [], ◌∷◌, ◌++◌, Some}
+use Rattle.std.specs.Prelude.{ℕ, ◌≡◌, ◌<◌, List, [], ◌∷◌, ◌++◌, Some, map}
+use Rattle.std.specs.List.{filter_map}
 use Rattle.tn_base.specs.declared.event.Event.{Event}
 use Rattle.tn_base.specs.declared.shape.ShapeNumbers.{ShapeNumbers}
 use Rattle.tn_base.specs.Address.{tile_of, tile_place}
@@ -12,8 +13,13 @@ use Rattle.tn_letters.specs.Standing.{standing_on}
 use Rattle.tn_rows.specs.Events.{IsWorld, happened}
 use Rattle.tn_rows.specs.Places.{Places, Nowhere, One, Two, places}
 use Rattle.tn_rows.specs.WorldView.{WorldView}
+use Rattle.tn_letters.specs.declared.steps.BagStep.{BagStep}
+use Rattle.tn_stamped.specs.declared.placing.EventParts.{EventParts}
+use Rattle.tn_stamped.specs.declared.placing.EventParts.TheVariants as parts
+use Rattle.tn_follow.specs.declared.sighting.Sighting.{Sighting}
+use Rattle.tn_follow.specs.declared.sighting.Sighting.TheVariants as sighting
 use Rattle.tn_follow.specs.declared.spots.Spot.{Spot}
-use Rattle.tn_follow.specs.Follow.{new_spots, spots, spots_in}
+use Rattle.tn_follow.specs.Follow.{letter_dropped, letter_handed, new_spots, receivers, spots, spots_in}
 
 -- the part that a place is on
 abbrev pub part_at : ShapeNumbers → Place → ℕ
@@ -61,3 +67,25 @@ AreInOrder n (Two p q) = (p < q) × (q < part_count n)
 abbrev pub NewAtItsParts : Type 0
 NewAtItsParts = (origin number : ℕ) (e : Event) (old new : WorldView) → WithinLimits old.shape → IsWorld old → happened e old ≡ Some new → AreInOrder old.shape (places old.shape e)
     → new_spots (spots origin number new) (spots origin number old) ≡ new_at origin number old new (places old.shape e)
+
+-- where an event is, by what code knows of its parts
+abbrev pub places_of : EventParts → Places
+places_of parts.Nowhere = Nowhere
+places_of (parts.One p) = One p.0
+places_of (parts.Two p q port) = Two p.0 q.0
+
+-- where the send's letters are on the only part, or on the lesser of two parts; and on the greater one
+abbrev pub lesser_spots : ℕ → ℕ → WorldView → Places → List Spot
+lesser_spots origin number w Nowhere = []
+lesser_spots origin number w (One p) = spots_on origin number w p
+lesser_spots origin number w (Two p q) = spots_on origin number w p
+
+abbrev pub greater_spots : ℕ → ℕ → WorldView → Places → List Spot
+greater_spots origin number w Nowhere = []
+greater_spots origin number w (One p) = []
+greater_spots origin number w (Two p q) = spots_on origin number w q
+
+-- the send's letters that steps hand, then those that they drop
+abbrev pub ends_in : ℕ → ℕ → ℕ → List BagStep → List Sighting
+ends_in origin number k steps =
+    map (λ r. sighting.Handed k r) (receivers origin number (filter_map letter_handed steps)) ++ map (λ r. sighting.Dropped k r) (receivers origin number (filter_map letter_dropped steps))

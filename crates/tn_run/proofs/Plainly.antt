@@ -21,7 +21,9 @@ use Rattle.tn_text.specs.Gives.{Becomes}
 use Rattle.tn_trace.specs.Parting.{is_parting, lines_behind, parting_line}
 use Rattle.tn_trace.specs.Reading.{events_of}
 use Rattle.tn_trace.specs.declared.read.TraceKind.{TraceKind}
-use Rattle.tn_run.specs.Checked.{AnswersCheck, AnswersEvents, AnswersRest, refused_on, verdict_answer}
+use Rattle.tn_run.specs.Checked.{AnswersEvents, AnswersRest, AnswersTrace, refused_on, verdict_answer}
+use Rattle.tn_run.specs.declared.checked.TraceCommand.{TraceCommand}
+use Rattle.tn_run.specs.declared.checked.TraceCommand.TheVariants as trace
 use Rattle.tn_run.specs.Machine.{machine_by}
 use Rattle.tn_run.specs.Refusal.{refusal_text}
 use Rattle.tn_run.specs.declared.texts.TextCommand.{TextCommand}
@@ -57,27 +59,28 @@ made_is : (r : Result (List ℕ) LoadFault) (status : Status) (text : List ℕ) 
 made_is (Ok made) status text h = pair_is (Done, made) status text refl h
 made_is (Err found) status text h = pair_is (Refused, refusal_text found) status text refl h
 
-verdict_is : (first : ℕ) (lines : List (List ℕ)) (events : List Event) (v : Verdict) → is_outcome (verdict_answer first lines events v).0 ≡ false
-verdict_is first lines events verdict.Run = refl
-verdict_is first lines events (verdict.Refused at) = refl
+verdict_is : (c : TraceCommand) (start : WorldView) (first : ℕ) (lines : List (List ℕ)) (events : List Event) (v : Verdict) → is_outcome (verdict_answer c start first lines events v).0 ≡ false
+verdict_is c start first lines events verdict.Run = refl
+verdict_is c start first lines events (verdict.Refused at) = refl
 
-events_are : (start : WorldView) (first : ℕ) (lines : List (List ℕ)) (events : Result (List Event) (Fault TraceKind)) (status : Status) (text : List ℕ) → AnswersEvents start first lines events status text → is_outcome status ≡ false
-events_are start first lines (Err fault) status text h = pair_is (refused_on fault.line (codes "BadLine")) status text refl h
-events_are start first lines (Ok events) status text h = pair_is (verdict_answer first lines events h.0) status text (verdict_is first lines events h.0) h.2
+events_are : (c : TraceCommand) (start : WorldView) (first : ℕ) (lines : List (List ℕ)) (events : Result (List Event) (Fault TraceKind)) (status : Status) (text : List ℕ) → AnswersEvents c start first lines events status text → is_outcome status ≡ false
+events_are c start first lines (Err fault) status text h = pair_is (refused_on fault.line (codes "BadLine")) status text refl h
+events_are c start first lines (Ok events) status text h = pair_is (verdict_answer c start first lines events h.0) status text (verdict_is c start first lines events h.0) h.2
 
-rest_is : (start : WorldView) (line : ℕ) (rest : Option (List (List ℕ))) (status : Status) (text : List ℕ) → AnswersRest start line rest status text → is_outcome status ≡ false
-rest_is start line None status text h = pair_is (refused_on line (codes "NoTrace")) status text refl h
-rest_is start line (Some lines) status text h = events_are start (line + 1) lines (events_of (line + 1) lines) status text h
+rest_is : (c : TraceCommand) (start : WorldView) (line : ℕ) (rest : Option (List (List ℕ))) (status : Status) (text : List ℕ) → AnswersRest c start line rest status text → is_outcome status ≡ false
+rest_is c start line None status text h = pair_is (refused_on line (codes "NoTrace")) status text refl h
+rest_is c start line (Some lines) status text h = events_are c start (line + 1) lines (events_of (line + 1) lines) status text h
 
-check_is : (lines : List (List ℕ)) (start : Result WorldView LoadFault) (status : Status) (text : List ℕ) → AnswersCheck lines start status text → is_outcome status ≡ false
-check_is lines (Err fault) status text h = pair_is (Refused, refusal_text fault) status text refl h
-check_is lines (Ok start) status text h = rest_is start (parting_line lines) (lines_behind lines) status text h
+trace_is : (c : TraceCommand) (lines : List (List ℕ)) (start : Result WorldView LoadFault) (status : Status) (text : List ℕ) → AnswersTrace c lines start status text → is_outcome status ≡ false
+trace_is c lines (Err fault) status text h = pair_is (Refused, refusal_text fault) status text refl h
+trace_is c lines (Ok start) status text h = rest_is c start (parting_line lines) (lines_behind lines) status text h
 
 answer_is : (c : TextCommand) (input : List ℕ) (status : Status) (text : List ℕ) → text_answer c input tt status text → is_outcome status ≡ false
 answer_is command.Asm input status text h = made_is (asm_by (assembled 1 input)) status text h
 answer_is command.Show input status text h = made_is (shown_lines 1 (lines_of input)) status text h
 answer_is command.Map input status text h = made_is (map_of (job_said (lines_of input))) status text h
-answer_is command.Check input status text h = check_is (lines_of input) (machine_by (job_said (before_first is_parting (lines_of input)))) status text h
+answer_is command.Check input status text h = trace_is trace.Check (lines_of input) (machine_by (job_said (before_first is_parting (lines_of input)))) status text h
+answer_is (command.Follow origin number) input status text h = trace_is (trace.Follow origin number) (lines_of input) (machine_by (job_said (before_first is_parting (lines_of input)))) status text h
 
 pub ends_plainly : EndsPlainly
 ends_plainly Done words s a = refl

@@ -27,9 +27,12 @@ use Rattle.job_faults.specs.declared.map.Mapped.{Mapped}
 use Rattle.job_faults.specs.Order.{mapped}
 use Rattle.job_faults.specs.Names.{fault_of_asm, job_said}
 use Rattle.map_text.specs.Text.{map_text}
+use Rattle.tn_run.specs.declared.texts.Making.{Making}
+use Rattle.tn_run.specs.declared.texts.Making.TheVariants as making
 use Rattle.tn_run.specs.declared.texts.TextCommand.{TextCommand}
-use Rattle.tn_run.specs.declared.texts.TextCommand.TheVariants.{Asm, Check, Map, Show}
-use Rattle.tn_run.specs.Checked.{check_answer}
+use Rattle.tn_run.specs.declared.texts.TextCommand.TheVariants.{Asm, Check, Follow, Map, Show}
+use Rattle.tn_run.specs.Checked.{trace_answer}
+use Rattle.tn_run.specs.declared.checked.TraceCommand.TheVariants as trace
 use Rattle.tn_run.specs.Refusal.{refusal_text}
 
 -- The commands.
@@ -40,6 +43,7 @@ text_in command.Asm = Some Asm
 text_in command.Show = Some Show
 text_in command.Map = Some Map
 text_in command.Check = Some Check
+text_in (command.Follow origin number) = Some (Follow origin number)
 text_in other = None
 
 -- the command of words that are a form of `plain_top`
@@ -95,6 +99,13 @@ abbrev pub map_of : Result Job LoadFault → Result (List ℕ) LoadFault
 map_of (Ok job) = map_by job.numbers (mapped job)
 map_of (Err found) = Err found
 
+-- What a text becomes: a line for each command that makes a text of its input.
+
+abbrev pub made_of : Making → List ℕ → Result (List ℕ) LoadFault
+made_of making.Assembled input = asm_by (assembled 1 input)
+made_of making.Shown input = shown_lines 1 (lines_of input)
+made_of making.Mapped input = map_of (job_said (lines_of input))
+
 -- What a command answers.
 
 abbrev pub answer_by : Result (List ℕ) LoadFault → Status × List ℕ
@@ -103,10 +114,11 @@ answer_by (Err found) = (Refused, refusal_text found)
 
 -- a line for each command: the status and the text are its answer to the input
 abbrev pub text_answer : TextCommand → List ℕ → Unit {0} → Status → List ℕ → Type 0
-text_answer Asm input kept status text = answer_by (asm_by (assembled 1 input)) ≡ (status, text)
-text_answer Show input kept status text = answer_by (shown_lines 1 (lines_of input)) ≡ (status, text)
-text_answer Map input kept status text = answer_by (map_of (job_said (lines_of input))) ≡ (status, text)
-text_answer Check input kept status text = check_answer input status text
+text_answer Asm input kept status text = answer_by (made_of making.Assembled input) ≡ (status, text)
+text_answer Show input kept status text = answer_by (made_of making.Shown input) ≡ (status, text)
+text_answer Map input kept status text = answer_by (made_of making.Mapped input) ≡ (status, text)
+text_answer Check input kept status text = trace_answer trace.Check input status text
+text_answer (Follow origin number) input kept status text = trace_answer (trace.Follow origin number) input status text
 
 -- the answer of a command that made this text, or was refused
 abbrev pub AnswersMade : Result (Unit {0}) (Stop LoadFault) → List ℕ → Status → List ℕ → Type 0

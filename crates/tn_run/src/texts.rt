@@ -5,13 +5,13 @@ ghost use Rattle.job_text.specs.Numbered.{AreNumbered};
 ghost use Rattle.job_text.specs.WellFormed.{IsWellFormed};
 ghost use Rattle.tn_call.specs.Number.{tells};
 ghost use Rattle.tn_text.specs.Gives.{Becomes};
-ghost use Rattle.tn_run.specs.Texts.{AnswersMade, Anything, asm_by, map_by, map_of, onto, reads_all, shown_line, shown_lines, shown_text, text_answer, text_in};
+ghost use Rattle.tn_run.specs.Texts.{AnswersMade, Anything, answer_by, asm_by, made_of, map_by, map_of, onto, reads_all, shown_line, shown_lines, shown_text, text_answer, text_in};
 ghost use Rattle.asm_build.specs.Text.{assembled};
 ghost use Rattle.job_faults.specs.Names.{job_said};
 ghost use Rattle.tn_text.specs.Lines.{lines_of};
 ghost use Rattle.tn_run.specs.declared.texts.TextCommand.{TextCommand};
 
-use crate::checked::answer_check;
+use crate::checked::{TraceCommand, answer_trace};
 use crate::refusal::refused;
 use asm_build::assemble::assemble_text;
 use asm_build::show::show;
@@ -42,6 +42,19 @@ pub enum TextCommand {
     Map,
     /// Whether the events behind a job are a run of its machine.
     Check,
+    /// What the events behind a job do with the letters of a send.
+    Follow { origin: u32, number: u32 },
+}
+
+/// What a text becomes.
+#[derive(Clone, Copy, PartialEq, Eq, Debug)]
+pub enum Making {
+    /// The words of assembly.
+    Assembled,
+    /// The assembly of words.
+    Shown,
+    /// The places and tables of a job's graph.
+    Mapped,
 }
 
 /// What serves the commands on texts.
@@ -130,7 +143,7 @@ fn push_map(alloc: Global, text: &mut Vec<u8>, input: &[u8]) -> Result<(), LoadS
 }
 
 /// The answer of a command that made this text, or was refused.
-fn answer_made(
+fn answer_of(
     alloc: Global,
     text: Vec<u8>,
     made: Result<(), LoadStop>,
@@ -149,37 +162,32 @@ fn answer_made(
     }
 }
 
-/// The answer to assembly.
-fn answer_asm(alloc: Global, input: &[u8]) -> Result<Answer<()>, AllocError>
+/// Appends what a text becomes.
+fn push_made(
+    alloc: Global,
+    text: &mut Vec<u8>,
+    making: Making,
+    input: &[u8],
+) -> Result<(), LoadStop>
     requires { length input.now ≤ 16777216 }
-    ensures answers { IfOk result (λ a. text_answer TextCommand.Asm input.now a.kept a.status a.text.items) }
-    ensures tells { IfOk result (λ a. tells a.status ≡ true) }
+    ensures { Becomes result text.new.items (onto text.old.items (made_of making input.now)) }
 {
-    let mut text = Vec::new(alloc);
-    let made = push_assembled(alloc, &mut text, input);
-    answer_made(alloc, text, made)
+    match making {
+        Making::Assembled => push_assembled(alloc, text, input),
+        Making::Shown => push_lines(alloc, text, input),
+        Making::Mapped => push_map(alloc, text, input),
+    }
 }
 
-/// The answer to words.
-fn answer_show(alloc: Global, input: &[u8]) -> Result<Answer<()>, AllocError>
+/// The answer of a command that makes a text of its input.
+fn answer_made(alloc: Global, making: Making, input: &[u8]) -> Result<Answer<()>, AllocError>
     requires { length input.now ≤ 16777216 }
-    ensures answers { IfOk result (λ a. text_answer TextCommand.Show input.now a.kept a.status a.text.items) }
+    ensures made { IfOk result (λ a. answer_by (made_of making input.now) ≡ (a.status, a.text.items)) }
     ensures tells { IfOk result (λ a. tells a.status ≡ true) }
 {
     let mut text = Vec::new(alloc);
-    let made = push_lines(alloc, &mut text, input);
-    answer_made(alloc, text, made)
-}
-
-/// The answer to a job with a graph.
-fn answer_map(alloc: Global, input: &[u8]) -> Result<Answer<()>, AllocError>
-    requires { length input.now ≤ 16777216 }
-    ensures answers { IfOk result (λ a. text_answer TextCommand.Map input.now a.kept a.status a.text.items) }
-    ensures tells { IfOk result (λ a. tells a.status ≡ true) }
-{
-    let mut text = Vec::new(alloc);
-    let made = push_map(alloc, &mut text, input);
-    answer_made(alloc, text, made)
+    let made = push_made(alloc, &mut text, making, input);
+    answer_of(alloc, text, made)
 }
 
 /// The answer to a text.
@@ -189,10 +197,13 @@ fn answer_text(alloc: Global, command: TextCommand, input: &[u8]) -> Result<Answ
     ensures tells { IfOk result (λ a. tells a.status ≡ true) }
 {
     match command {
-        TextCommand::Asm => answer_asm(alloc, input),
-        TextCommand::Show => answer_show(alloc, input),
-        TextCommand::Map => answer_map(alloc, input),
-        TextCommand::Check => answer_check(alloc, input),
+        TextCommand::Asm => answer_made(alloc, Making::Assembled, input),
+        TextCommand::Show => answer_made(alloc, Making::Shown, input),
+        TextCommand::Map => answer_made(alloc, Making::Mapped, input),
+        TextCommand::Check => answer_trace(alloc, TraceCommand::Check, input),
+        TextCommand::Follow { origin, number } => {
+            answer_trace(alloc, TraceCommand::Follow { origin, number }, input)
+        }
     }
 }
 
@@ -215,11 +226,8 @@ impl Service for TextService {
             Command::Show => Some(TextCommand::Show),
             Command::Map => Some(TextCommand::Map),
             Command::Check => Some(TextCommand::Check),
-            Command::Run { .. }
-            | Command::Gen { .. }
-            | Command::Follow { .. }
-            | Command::Bsp
-            | Command::Wire { .. } => None,
+            Command::Follow { origin, number } => Some(TextCommand::Follow { origin, number }),
+            Command::Run { .. } | Command::Gen { .. } | Command::Bsp | Command::Wire { .. } => None,
         }
     }
 

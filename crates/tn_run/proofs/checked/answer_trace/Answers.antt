@@ -2,7 +2,7 @@ use Rattle.std.proofs.Common.{◌≤◌, arith, length}
 use Rattle.tn_text.proofs.FirstLine.{line_count}
 use Rattle.tn_text.specs.Lines.{lines_of}
 use Rattle.tn_run.proofs.Behind.{fits_behind}
-use Rattle.tn_run.proofs.checked.answer_check.Goals as goal
+use Rattle.tn_run.proofs.checked.answer_trace.Goals as goal
 
 pub answer_rest-requires : goal.answer_rest-requires
 answer_rest-requires c = λ behind is.
