@@ -1,5 +1,5 @@
 -- The commands that run a machine, and what each answers to an input.
-use Rattle.std.specs.Prelude.{◌≡◌, ℕ, Bool, true, List, [], ◌++◌, if◌then◌else◌, None, Option, Some, option_and_then}
+use Rattle.std.specs.Prelude.{◌≡◌, ℕ, ◌*◌, Bool, true, false, ◌&&◌, List, [], ◌++◌, if◌then◌else◌, nat_le, None, Option, Some, option_and_then}
 use Rattle.std.specs.declared.result.Result.{Result}
 use Rattle.std.specs.declared.result.Result.TheVariants.{Ok, Err}
 use Rattle.job_edges.specs.JobLayout.{layout_of}
@@ -9,6 +9,8 @@ use Rattle.job_faults.specs.declared.map.Mapped.{Mapped}
 use Rattle.job_load.specs.Loaded.{loaded}
 use Rattle.job_faults.specs.Names.{job_said}
 use Rattle.job_text.specs.declared.job.Job.{Job}
+use Rattle.polite_log.specs.Summary.{summary_of, summary_text}
+use Rattle.tn_gen.specs.Job.{gen_text}
 use Rattle.tn_letters.specs.AtRest.{AnswersAtRest}
 use Rattle.tn_letters.specs.Law.{IsBagRun}
 use Rattle.tn_base.specs.declared.event.Outcome.{Outcome}
@@ -29,13 +31,14 @@ use Rattle.tn_run.specs.declared.machine.MachineCommand.{MachineCommand}
 use Rattle.tn_run.specs.declared.machine.MachineCommand.TheVariants as machine
 use Rattle.tn_run.specs.Kept.{IsFresh, KeptView}
 use Rattle.tn_run.specs.Refusal.{refusal_text}
-use Rattle.tn_run.specs.Report.{report_text}
+use Rattle.tn_run.specs.Report.{outcome_text, report_text}
 
 -- The commands.
 
 -- the command that runs a machine, if the words' command is one and is built
 abbrev pub machine_in : Command → Option MachineCommand
 machine_in (command.Run workers trace) = Some (machine.Run workers trace)
+machine_in (command.Gen start count workers) = if nat_le 1 count && nat_le count 4096 then Some (machine.Gen start count workers) else None
 machine_in other = None
 
 -- the command of words that are a form of `run_top`
@@ -45,6 +48,7 @@ machine_form words = option_and_then machine_in (form_of words)
 -- the command reads a job from the source
 abbrev pub machine_reads : MachineCommand → Bool
 machine_reads (machine.Run workers trace) = true
+machine_reads (machine.Gen start count workers) = false
 
 -- From an input to its machine.
 
@@ -85,9 +89,28 @@ abbrev pub IsAnswerOf : Bool → Result WorldView LoadFault → KeptView → Sta
 IsAnswerOf trace (Err fault) kept status text = IsRefusal fault kept status text
 IsAnswerOf trace (Ok start) kept status text = IsRunOf trace start kept status text
 
+-- The kept history is a run of the drawn job's machine to its end, as a run of a job that was read. The text has the six figures of the run
+-- and how the run ended.
+pub record IsGenOf (count : ℕ) (start : WorldView) (kept : KeptView) (status : Status) (text : List ℕ) : Type 0 where
+  pub kept_start : kept.start ≡ Some start
+  pub end : WorldView
+  pub outcome : Outcome
+  pub run : Run start kept.history end
+  pub means : IsBagRun start kept.history end
+  pub idle : AnswersAtRest start kept.history
+  pub ended : IsOutcome kept.history end outcome
+  pub status_is : status ≡ status_of outcome
+  pub text_is : text ≡ summary_text (summary_of count (4 * count) start kept.history end) ++ outcome_text outcome
+
+-- the answer to a drawn job with so many vertices
+abbrev pub IsGenAnswer : ℕ → Result WorldView LoadFault → KeptView → Status → List ℕ → Type 0
+IsGenAnswer count (Err fault) kept status text = IsRefusal fault kept status text
+IsGenAnswer count (Ok start) kept status text = IsGenOf count start kept status text
+
 -- a line for each command: the status and the text are its answer to the input, by what is kept
 abbrev pub machine_answer : MachineCommand → List ℕ → KeptView → Status → List ℕ → Type 0
 machine_answer (machine.Run workers trace) input kept status text = IsAnswerOf trace (machine_of input) kept status text
+machine_answer (machine.Gen start count workers) input kept status text = IsGenAnswer count (machine_of (gen_text start count)) kept status text
 
 -- What `run_top` answers.
 
