@@ -1,5 +1,5 @@
 -- The forms of `gen`.
-use Rattle.std.proofs.Common.{◌≡◌, ℕ, Bool, true, false, ◌&&◌, ◌||◌, if◌then◌else◌, nat_le, List, [], ◌∷◌, codes, Option, None, Some, refl, option_map, option_and_then, subst, sym, length}
+use Rattle.std.proofs.Common.{◌≡◌, ◌∙◌, ℕ, Bool, true, false, ◌&&◌, ◌||◌, if◌then◌else◌, nat_le, List, [], ◌∷◌, codes, Option, None, Some, ap, refl, option_map, option_and_then, subst, sym, length}
 use Rattle.std.specs.Str.{bytes_eq}
 use Rattle.std.proofs.lemmas.Slice.Eq.{bytes_eq-Decides}
 use Rattle.tn_text.specs.Numbers.{decimal_of}
@@ -40,17 +40,17 @@ made_of : (start count workers : ℕ) → (nat_le 1 count && nat_le count 4096) 
 made_of start count workers h = rw h refl
 
 gen_by : (start count workers : Option ℕ) → ((n : ℕ) → count ≡ Some n → (nat_le 1 n && nat_le n 4096) ≡ true) → served (gen_with start count workers)
-gen_by (Some start) (Some count) (Some workers) h s c w e = (rw (cc e : start ≡ s, cc e : count ≡ c, cc e : workers ≡ w) (made_of start count workers (h count refl)))
+gen_by (Some start) (Some count) (Some workers) h s c w e = ap (λ (form : Option Command). option_and_then machine_in form) e ∙ made_of s c w (h c (cc e))
 gen_by (Some start) (Some count) None h s c w e = cc e
 gen_by (Some start) None workers h s c w e = cc e
 gen_by None count workers h s c w e = cc e
 
 gen_two : (value : Option (List ℕ)) (two : Option (List ℕ × List ℕ)) → served (gen_pair value two)
-gen_two value (Some p) = gen_by (word_in p.0) (number_within 1 4096 p.1) (workers_in value) (λ n e. size_by (nat_le (length p.1) 10) (decimal_of p.1) n e)
+gen_two value (Some p) s c w e = gen_by (word_in p.0) (number_within 1 4096 p.1) (workers_in value) (λ n e. size_by (nat_le (length p.1) 10) (decimal_of p.1) n e) s c w e
 gen_two value None s c w e = cc e
 
 gen_parted : (p : Option Parted) → served (option_and_then (λ p. gen_among p.value p.others) p)
-gen_parted (Some p) = gen_two p.value (two_of p.others)
+gen_parted (Some p) s c w e = gen_two p.value (two_of p.others) s c w e
 gen_parted None s c w e = cc e
 
 run_by : (workers : Option ℕ) (trace : Option Bool) → served (run_with workers trace)
@@ -59,11 +59,11 @@ run_by (Some workers) None s c w e = cc e
 run_by None trace s c w e = cc e
 
 run_parted : (p : Option Parted) → served (option_and_then (λ p. run_with (workers_in p.value) (traced p.others)) p)
-run_parted (Some p) = run_by (workers_in p.value) (traced p.others)
+run_parted (Some p) s c w e = run_by (workers_in p.value) (traced p.others) s c w e
 run_parted None s c w e = cc e
 
 alone_is : (c : Command) (words : List (List ℕ)) → served (Some c) → served (alone c words)
-alone_is c [] h = h
+alone_is c [] h s n w e = h s n w e
 alone_is c (word ∷ rest) h s n w e = cc e
 
 follow_by : (origin number : Option ℕ) → served (follow_with origin number)
@@ -74,7 +74,7 @@ follow_by None number s c w e = cc e
 follow_is : (words : List (List ℕ)) → served (follow_of words)
 follow_is [] s c w e = cc e
 follow_is (origin ∷ []) s c w e = cc e
-follow_is (origin ∷ number ∷ []) = follow_by (word_in origin) (word_in number)
+follow_is (origin ∷ number ∷ []) s c w e = follow_by (word_in origin) (word_in number) s c w e
 follow_is (origin ∷ number ∷ more ∷ rest) s c w e = cc e
 
 wire_by : (seed : Option ℕ) → served (option_map (λ n. command.Wire n) seed)
@@ -83,12 +83,12 @@ wire_by None s c w e = cc e
 
 wire_is : (words : List (List ℕ)) → served (wire_of words)
 wire_is [] s c w e = cc e
-wire_is (seed ∷ []) = wire_by (word_in seed)
+wire_is (seed ∷ []) s c w e = wire_by (word_in seed) s c w e
 wire_is (seed ∷ more ∷ rest) s c w e = cc e
 
 pub gens_served : EachGenIsServed
 gens_served [] s c w e = cc e
-gens_served (name ∷ words) =
+gens_served (name ∷ words) s c w e =
     either served (bytes_eq name (codes "run")) _ _ (run_parted (parted words))
     (either served (bytes_eq name (codes "gen")) _ _ (gen_parted (parted words))
     (either served (bytes_eq name (codes "asm")) _ _ (alone_is command.Asm words (λ s c w e. cc e))
@@ -97,7 +97,7 @@ gens_served (name ∷ words) =
     (either served (bytes_eq name (codes "check")) _ _ (alone_is command.Check words (λ s c w e. cc e))
     (either served (bytes_eq name (codes "follow")) _ _ (follow_is words)
     (either served (bytes_eq name (codes "bsp")) _ _ (alone_is command.Bsp words (λ s c w e. cc e))
-    (either served (bytes_eq name (codes "wire")) _ _ (wire_is words) (λ s c w e. cc e)))))))))
+    (either served (bytes_eq name (codes "wire")) _ _ (wire_is words) (λ s c w e. cc e))))))))) s c w e
 
 -- `gen` reads nothing.
 
@@ -124,7 +124,7 @@ unread_parted None = refl
 
 -- words that begin with `gen` read nothing
 pub gen_unread : (words : List (List ℕ)) → is_gen words ≡ true → form_reads machine_reads machine_answer IsFresh (machine_form words) ≡ false
-gen_unread [] e = cc e
+gen_unread [] e = refl
 gen_unread (name ∷ words) e = subst (λ (first : List ℕ). unread (named first words)) (sym ((bytes_eq-Decides name (codes "gen")).0 e)) (unread_parted (parted words))
 
 or_true : (b : Bool) → (b || true) ≡ true
