@@ -121,7 +121,14 @@ fn run_drawn(
 {
     let count = size.count();
     let run = play_out(start)?;
-    let text = figures_text(alloc, count, &run.start, &run.history, &run.end, run.outcome)?;
+    let text = figures_text(
+        alloc,
+        count,
+        &run.start,
+        &run.history,
+        &run.end,
+        run.outcome,
+    )?;
     Ok(run.answered(text))
 }
 

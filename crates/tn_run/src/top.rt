@@ -49,7 +49,7 @@ pub fn run_top<H: Threads + Wait + Sync, R: Source, W: Sink, G: Gate + Sync>(
     ensures unread { result ≡ Status.Usage → source.new ≡ source.old }
 
     // `gen` leaves the source as it was.
-    ensures gen { is_gen (map string_bytes words.now) ≡ true → source.new ≡ source.old }
+    ensures drawn { is_gen (map string_bytes words.now) ≡ true → source.new ≡ source.old }
 
     // If the status is Usage, ReadFault, TooLong or Memory, the sink is as it was.
     ensures unwritten { is_silent result ≡ true → sink.new ≡ sink.old }
@@ -104,7 +104,7 @@ pub fn serve<H: Threads + Wait + Sync, R: Source, W: Sink, G: Gate + Sync>(
     ensures unread { result ≡ Status.Usage → source.new ≡ source.old }
 
     // `gen` leaves the source as it was.
-    ensures gen { is_gen (map string_bytes words.now) ≡ true → source.new ≡ source.old }
+    ensures drawn { is_gen (map string_bytes words.now) ≡ true → source.new ≡ source.old }
 
     // If the status is Usage, ReadFault, TooLong or Memory, the sink is as it was.
     ensures unwritten { is_silent result ≡ true → sink.new ≡ sink.old }
