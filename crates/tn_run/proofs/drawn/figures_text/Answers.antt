@@ -1,0 +1,5 @@
+use Rattle.std.proofs.Common.{refl}
+use Rattle.tn_run.proofs.drawn.figures_text.Goals as goal
+
+pub returns : goal.returns
+returns c = rw (c.in_ok-push_outcome.ensures, c.in_ok-push_summary.ensures, c.new-text.ensures.items, c.in_ok-summary.ensures) refl
