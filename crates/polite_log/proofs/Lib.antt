@@ -1,2 +1,9 @@
+pub mod Counted
+pub mod Dispatches
+pub mod Hands
 pub mod HistoryDeeds
+pub mod Logs
+pub mod Making
+pub mod Replaying
+pub mod Sights
 pub mod TileDeeds

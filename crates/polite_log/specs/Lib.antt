@@ -1,2 +1,4 @@
+pub mod Log
+pub mod Reading
 pub mod Summary
 pub mod TileDeeds

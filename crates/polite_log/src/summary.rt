@@ -1,18 +1,22 @@
 //! Figures of a run.
 
-ghost use Rattle.std.specs.Prelude.{◌≡◌, ◌++◌, IfOk, OnOk, count_by};
+ghost use Rattle.std.specs.Prelude.{◌≡◌, ◌+◌, ◌++◌, IfOk, IsSome, OnOk, count_by};
+ghost use Rattle.tn_letters.specs.Steps.{event_steps};
 ghost use Rattle.tn_letters.specs.Tiles.{host_on};
+ghost use Rattle.tn_rows.specs.Events.{happened};
 ghost use Rattle.tn_rows.specs.Runs.{Run};
 ghost use Rattle.tn_rows.specs.WorldView.{WorldView};
 ghost use Rattle.polite_log.specs.Summary.{figure_text, is_announce, is_hand, letters_in, second_word, summary_text, word_sum};
 
+use crate::deeds::make;
 use std::alloc::{AllocError, Global};
-use tn_bag::spell::bag_of;
+use tn_bag::spell::push_event;
 use tn_base::bytes::Bytes;
 use tn_base::event::Event;
 use tn_base::message::Letter;
 use tn_letters::steps::BagStep;
 use tn_link::link::Link;
+use tn_pages::stock::PageStock;
 use tn_world::world::World;
 
 /// The figures of a run of a graph job.
@@ -70,7 +74,8 @@ fn hands(steps: &[BagStep]) -> usize
     steps.iter().filter(|step| is_hand(step)).count()
 }
 
-/// How many letters were handed to threads in a run. The run is made again on a copy of the start.
+/// How many letters were handed to threads in a run. The run is made again on a copy of the start, and only the steps of one event are kept
+/// at a time.
 pub fn letters<L: Link>(
     alloc: Global,
     start: &World<L>,
@@ -79,8 +84,34 @@ pub fn letters<L: Link>(
     requires { (end : WorldView) × Run start.now history.now end }
     ensures { IfOk result (λ n. n ≡ letters_in start.now history.now) }
 {
-    let steps = bag_of(alloc, start, history)?;
+    let mut count: usize = 0;
+    let mut stock = PageStock::of(alloc);
+    let mut world = start.copy()?;
+    for event in history {
+        count = total(count, hands_in(alloc, &world, event)?)?;
+        make(&mut world, event, &mut stock)?;
+    }
+    Ok(count)
+}
+
+/// How many letters an event hands to threads.
+fn hands_in<L: Link>(alloc: Global, world: &World<L>, event: &Event) -> Result<usize, AllocError>
+    requires { IsSome (happened event.now world.now) }
+    ensures { IfOk result (λ n. n ≡ count_by is_hand (event_steps event.now world.now)) }
+{
+    let mut steps = Vec::new(alloc);
+    push_event(&mut steps, alloc, world, event)?;
     Ok(hands(&steps))
+}
+
+/// The sum of two counts. If no count can be so large, there is no room for the sum.
+fn total(a: usize, b: usize) -> Result<usize, AllocError>
+    ensures { IfOk result (λ sum. sum ≡ a + b) }
+{
+    match a.checked_add(b) {
+        Some(sum) => Ok(sum),
+        None => Err(AllocError),
+    }
 }
 
 /// The second word of a message, its least byte first.
