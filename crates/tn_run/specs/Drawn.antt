@@ -14,7 +14,7 @@ use Rattle.tn_run.specs.Refusal.{IsRefusal}
 use Rattle.tn_run.specs.Report.{outcome_text}
 
 -- The figures of the run of a drawn job, and how the run ended. The job's graph has so many vertices, and four edges for each of them.
-abbrev pub figures_text : ℕ → WorldView → List Event → WorldView → Outcome → List ℕ
+unfoldable pub figures_text : ℕ → WorldView → List Event → WorldView → Outcome → List ℕ
 figures_text count start history end outcome = summary_text (summary_of count (4 * count) start history end) ++ outcome_text outcome
 
 -- The kept history is a full run of the machine. The text has the figures of the kept history, and how it ended.

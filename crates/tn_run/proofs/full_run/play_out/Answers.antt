@@ -8,6 +8,6 @@ returns-clause-full c = record {
   run = rw (← c.in_ok-end.ensures) c.in_ok-history.ensures.run;
   means = rw c.deref.ensures.value at c.law_flight.ensures.letters;
   idle = rw c.deref.ensures.value at c.law_flight.ensures.rest;
-  edges = λ job m is. c.law_graph_edges.ensures job m _ c.play.new.end _ is (rw (← c.in_ok-end.ensures) c.in_ok-history.ensures.run);
+  edges = λ job m is. c.law_graph_edges.ensures job m _ c.play.new.world _ is (rw (← c.in_ok-end.ensures) c.in_ok-history.ensures.run);
   ended = rw c.deref-2.ensures.value at c.outcome_of-outcome.ensures;
 }
