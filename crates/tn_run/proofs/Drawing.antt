@@ -7,7 +7,7 @@ use Rattle.tn_text.specs.declared.numbers.Numeral.{Numeral}
 use Rattle.tn_text.specs.declared.numbers.Numeral.TheVariants.{Value, TooLarge, NoNumber}
 use Rattle.tn_words.specs.declared.command.Command.{Command}
 use Rattle.tn_words.specs.declared.command.Command.TheVariants as command
-use Rattle.tn_words.specs.Forms.{Parted, Text, alone, follow_of, follow_with, form_of, gen_among, gen_of, gen_pair, gen_with, named, number_within, parted, run_with, traced, two_of, wire_of, within, word_in, workers_in}
+use Rattle.tn_words.specs.Forms.{Parted, alone, follow_of, follow_with, gen_among, gen_pair, gen_with, named, number_within, parted, run_with, traced, two_of, wire_of, within, word_in, workers_in}
 use Rattle.tn_call.specs.Answers.{form_reads}
 use Rattle.tn_run.specs.declared.machine.MachineCommand.TheVariants as machine
 use Rattle.tn_run.specs.Kept.{IsFresh}
