@@ -279,9 +279,9 @@ static CASES: [Case; 31] = [
         written: b"turn 0 2",
         ..RUN
     },
-    // A command of the other call.
+    // A drawn job without a number of vertices.
     Case {
-        words: &["gen", "7", "256"],
+        words: &["gen", "7"],
         ..NO_RUN
     },
     ASM,

@@ -67,7 +67,7 @@ gen_parted None = refl
 
 -- Along the names of the commands.
 
-either : (P : Option Command → Type 0) (b : Bool) (x y : Option Command) → P x → P y → P (if b then x else y)
+pub either : (P : Option Command → Type 0) (b : Bool) (x y : Option Command) → P x → P y → P (if b then x else y)
 either P true x y h k = h
 either P false x y h k = k
 

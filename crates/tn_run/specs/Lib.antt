@@ -1,5 +1,7 @@
 pub mod Checked
+pub mod Drawn
 pub mod Exits
+pub mod FullRun
 pub mod Kept
 pub mod Machine
 pub mod Refusal

@@ -161,7 +161,11 @@ fn push_bad_key(text: &mut Vec<u8>, key: u32) -> Result<(), AllocError>
 }
 
 /// Appends the line of an outcome.
-fn push_outcome(alloc: Global, text: &mut Vec<u8>, outcome: Outcome) -> Result<(), AllocError>
+pub(crate) fn push_outcome(
+    alloc: Global,
+    text: &mut Vec<u8>,
+    outcome: Outcome,
+) -> Result<(), AllocError>
     ensures { OnOk result (text.new.items ≡ text.old.items ++ outcome_text outcome) }
 {
     match outcome {

@@ -6,7 +6,7 @@ ghost use Rattle.tn_call.specs.declared.status.Status.TheVariants as Status;
 ghost use Rattle.tn_run.specs.Machine.{RunAnswers, RunCompletes};
 ghost use Rattle.tn_run.specs.Serve.{Serves};
 ghost use Rattle.tn_run.specs.Texts.{PlainAnswers, PlainCompletes};
-ghost use Rattle.tn_run.specs.Words.{is_for_machine};
+ghost use Rattle.tn_run.specs.Words.{is_for_machine, is_gen};
 
 use crate::kept::Kept;
 use crate::machine::MachineService;
@@ -21,10 +21,11 @@ use tn_io::gate::Gate;
 use tn_io::sink::Sink;
 use tn_io::source::Source;
 
-/// Serves the commands that run a machine: reads a job from the source, runs its machine, and writes the report into the sink. What the run
-/// was is kept.
+/// Serves the commands that run a machine. `run` reads a job from the source, runs its machine, and writes the report into the sink. `gen` draws
+/// a job, runs its machine, and writes the figures of the run. What the run was is kept.
 ///
 /// The handle and the gate are not used yet: the machine is run on one thread.
+#[tactic(auto, using(crate::proofs::Drawing::gen_unread))]
 pub fn run_top<H: Threads + Wait + Sync, R: Source, W: Sink, G: Gate + Sync>(
     _rt: &H,
     alloc: Global,
@@ -46,6 +47,9 @@ pub fn run_top<H: Threads + Wait + Sync, R: Source, W: Sink, G: Gate + Sync>(
 
     // Words that are no form leave the source as it was.
     ensures unread { result ≡ Status.Usage → source.new ≡ source.old }
+
+    // `gen` leaves the source as it was.
+    ensures drawn { is_gen (map string_bytes words.now) ≡ true → source.new ≡ source.old }
 
     // If the status is Usage, ReadFault, TooLong or Memory, the sink is as it was.
     ensures unwritten { is_silent result ≡ true → sink.new ≡ sink.old }
@@ -81,6 +85,7 @@ pub fn plain_top<R: Source, W: Sink>(
 }
 
 /// Hands the words to `run_top` if their first word names a command that runs a machine, and to `plain_top` else.
+#[tactic(auto, using(crate::proofs::Drawing::gen_for_machine))]
 pub fn serve<H: Threads + Wait + Sync, R: Source, W: Sink, G: Gate + Sync>(
     rt: &H,
     alloc: Global,
@@ -97,6 +102,9 @@ pub fn serve<H: Threads + Wait + Sync, R: Source, W: Sink, G: Gate + Sync>(
 
     // Words that are no form leave the source as it was.
     ensures unread { result ≡ Status.Usage → source.new ≡ source.old }
+
+    // `gen` leaves the source as it was.
+    ensures drawn { is_gen (map string_bytes words.now) ≡ true → source.new ≡ source.old }
 
     // If the status is Usage, ReadFault, TooLong or Memory, the sink is as it was.
     ensures unwritten { is_silent result ≡ true → sink.new ≡ sink.old }
