@@ -4,7 +4,7 @@ use Rattle.std.specs.List.{AllByRecursion}
 use Rattle.std.proofs.lemmas.List.{append-nil, drop-append-le, drop_all, get_or_default, length-drop, length-replicate, length-take-le, replicate-append-replicate, take-append-le}
 use Rattle.std.proofs.lemmas.List.{append-nil, drop-append-le, drop_all, get_or_default, length-drop, length-replicate, length-take-le, replicate-append-replicate, take-append-le}
 use Rattle.job_text.specs.declared.job.FillLine.{FillLine}
-use Rattle.job_load.specs.Groups.{fills_at, no_fill}
+use Rattle.job_load.specs.Groups.{ArePlaces, fills_at, no_fill}
 use Rattle.job_load.specs.Images.{IsImage, IsWithin, image_with, laid, overlaid}
 use Rattle.tn_pages.specs.Paged.{filled}
 use Rattle.job_faults.proofs.Ranges.{rest_first}
@@ -84,16 +84,19 @@ leads_step size all f rest image new within l e = record {
   few = omega (arith, ap length e, laid_few size image f.address f.bytes within l.few);
 }
 
-pub leads_more : (size : ℕ) (fills : List FillLine) (places : List ℕ) (i p : ℕ) (f : FillLine) (image new : List ℕ) →
-    i < length places → p ≡ get_or places i p → p < length fills → f ≡ get_or fills p f → f.address + length f.bytes ≤ size →
+pub leads_more : (size : ℕ) (fills : List FillLine) (places : List ℕ) (i : ℕ) (f : FillLine) (image new : List ℕ) →
+    i < length places → ArePlaces fills places → AllByRecursion (IsWithin size) fills → f ≡ get_or fills (get_or places i 0) f →
     Leads size (fills_at fills places) (fills_at fills (drop i places)) image → new ≡ image_with image f.address f.bytes →
     Leads size (fills_at fills places) (fills_at fills (drop (i + 1) places)) new
-leads_more size fills places i p f image new h is less item within l e =
+leads_more size fills places i f image new h there within item l e =
+    let p : ℕ = get_or places i 0 in
+    let is : p ≡ get_or places i p = get_or_default places i 0 p h in
+    let less : p < length fills = item_holds (λ k. k < length fills) places i p there h is in
     let here : get_or fills p no_fill ≡ f = sym (item ∙ get_or_default fills p f no_fill less) in
     let rest : fills_at fills (drop i places) ≡ f ∷ fills_at fills (drop (i + 1) places) =
     ap (fills_at fills) (rest_first places i p h is) ∙ ap (λ g. g ∷ fills_at fills (drop (i + 1) places)) here in
     let P : List FillLine → Type 0 = λ fs. Leads size (fills_at fills places) fs image in
-    leads_step size (fills_at fills places) f (fills_at fills (drop (i + 1) places)) image new within (subst P rest l) e
+    leads_step size (fills_at fills places) f (fills_at fills (drop (i + 1) places)) image new (item_holds (IsWithin size) fills p f within less item).end (subst P rest l) e
 
 pub leads_done : (size : ℕ) (fills : List FillLine) (places : List ℕ) (i : ℕ) (image : List ℕ) → length places ≤ i →
     Leads size (fills_at fills places) (fills_at fills (drop i places)) image → IsImage size (fills_at fills places) image

@@ -23,7 +23,8 @@ use Rattle.job_faults.specs.declared.fault.FaultName.TheVariants as fault
 use Rattle.job_faults.specs.Assembly.{sections_of}
 use Rattle.job_faults.specs.Code.{code_of}
 use Rattle.job_faults.specs.Faults.{beat_fault, beat_lines, code_fault, fault_at, fill_fault, place_fault, section_fault, send_fault, soonest}
-use Rattle.job_load.specs.Images.{IsImage, IsWithin, fills_of, memory_of, overlaid}
+use Rattle.job_load.specs.Groups.{AreGroups, fills_at, group_at}
+use Rattle.job_load.specs.Images.{IsImage, IsWithin, fills_of, memory_of}
 use Rattle.tn_pages.specs.Paged.{filled, started_with}
 use Rattle.job_faults.specs.Mapping.{graph_mapped}
 use Rattle.job_load.specs.Start.{by_address, filled_thread, part_start, start_of, thread_by, thread_start, tile_start}
@@ -37,13 +38,19 @@ same_start : (n : ShapeNumbers) (id : ThreadId) (a b : List ℕ) → filled n.me
 same_start n id a b e = ap (λ m. record (started n id [] None) { mem = started_with n.mem m }) e
 
 -- a thread that was made of the image of its fills is the thread over the whole memory that the image stands for
-pub thread_made : (n : ShapeNumbers) (fills : List FillLine) (id : ThreadId) (a : ℕ) (fs : List FillLine) (image : List ℕ) (thread : Thread) →
-    id.0 ≡ a → fs ≡ fills_of id.0 fills → IsImage n.mem fs image → thread ≡ started n id image None → thread ≡ filled_thread n fills a
-thread_made n fills id a fs image thread e f is made =
-    let memory : filled n.mem image ≡ memory_of n.mem fills id.0 = is.memory ∙ ap (overlaid (replicate n.mem 0)) f in
-    let long : length (memory_of n.mem fills id.0) ≡ n.mem = ap length (sym memory) ∙ filled_long n.mem image is.few in
+thread_filled : (n : ShapeNumbers) (fills : List FillLine) (id : ThreadId) (image : List ℕ) → IsImage n.mem (fills_of id.0 fills) image → started n id image None ≡ filled_thread n fills id.0
+thread_filled n fills id image is =
+    let long : length (memory_of n.mem fills id.0) ≡ n.mem = ap length (sym is.memory) ∙ filled_long n.mem image is.few in
     let whole : filled n.mem (memory_of n.mem fills id.0) ≡ memory_of n.mem fills id.0 = filled_none n.mem (memory_of n.mem fills id.0) (omega arith) in
-    made ∙ same_start n id image (memory_of n.mem fills id.0) (memory ∙ sym whole) ∙ ap (λ b. filled_thread n fills b) e
+    same_start n id image (memory_of n.mem fills id.0) (is.memory ∙ sym whole)
+
+pub thread_made : (n m : ShapeNumbers) (fills : List FillLine) (groups : List (List ℕ)) (id : ThreadId) (a : ℕ) (places image : List ℕ) (thread : Thread) →
+    m ≡ n → AreGroups fills groups → id.0 ≡ a → places ≡ group_at groups id.0 → IsImage m.mem (fills_at fills places) image → thread ≡ started n id image None → thread ≡ filled_thread n fills a
+thread_made n m fills groups id a places image thread e are f g is made =
+    let fs : fills_at fills places ≡ fills_of id.0 fills = ap (fills_at fills) g ∙ are.each id.0 in
+    let P : List FillLine → Type 0 = λ all. IsImage n.mem all image in
+    let Q : ShapeNumbers → Type 0 = λ k. IsImage k.mem (fills_at fills places) image in
+    made ∙ thread_filled n fills id image (subst P fs (subst Q e is)) ∙ ap (filled_thread n fills) f
 
 -- the threads of a tile of a job without a graph
 pub threads_same : (n : ShapeNumbers) (job : Job) (tile : ℕ) → n ≡ job.numbers → graph_mapped job ≡ None →
