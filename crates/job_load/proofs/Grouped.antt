@@ -1,5 +1,5 @@
 -- Groups of fills.
-use Rattle.std.proofs.Common.{ℕ, ◌≡◌, ◌<◌, ◌≤◌, ◌+◌, ◌==◌, ◌∷◌, ◌++◌, ◌∙◌, [], Bool, true, false, cond, List, length, drop, get_or, map, set, zero, suc, refl, sym, ap, subst, arith, append_assoc, inl, inr, if◌then◌else◌}
+use Rattle.std.proofs.Common.{ℕ, ◌≡◌, ◌<◌, ◌≤◌, ◌+◌, ◌==◌, ◌∷◌, ◌++◌, ◌∙◌, [], Bool, true, false, cond, List, length, drop, get_or, set, zero, suc, refl, sym, ap, subst, arith, append_assoc, inl, inr, if◌then◌else◌}
 use Rattle.std.specs.List.{AllByRecursion}
 use Rattle.std.proofs.lemmas.Bool.{cases_eq, eq-eqb, ne_eqb}
 use Rattle.std.proofs.lemmas.List.{append-nil, drop_all, get_or-set_other, get_or-set_same, get_or_default, map-append}
@@ -14,10 +14,6 @@ pub item_holds : {X : Type 0} (P : X → Type 0) (xs : List X) (i : ℕ) (x : X)
 item_holds P [] i x all less is = absurd (omega (arith, less))
 item_holds P (y ∷ ys) zero x all less is = subst P (sym is) all.0
 item_holds P (y ∷ ys) (suc i) x all less is = item_holds P ys i x all.1 (omega (arith, less)) is
-
--- a place that was read is a place of the list
-pub place_below : (fills : List FillLine) (places : List ℕ) (i p : ℕ) → ArePlaces fills places → i < length places → p ≡ get_or places i p → p < length fills
-place_below fills places i p all less is = item_holds (λ k. k < length fills) places i p all less is
 
 -- One more group.
 

@@ -103,7 +103,3 @@ pub leads_done : (size : ℕ) (fills : List FillLine) (places : List ℕ) (i : �
 leads_done size fills places i image h l =
     let done : Leads size (fills_at fills places) [] image = rw (drop_all i places h) at l in
     record { memory = done.memory; few = done.few }
-
--- a fill that was read at a place of fills that end within a memory
-pub within_at : (size : ℕ) (fills : List FillLine) (p : ℕ) (f : FillLine) → AllByRecursion (IsWithin size) fills → p < length fills → f ≡ get_or fills p f → f.address + length f.bytes ≤ size
-within_at size fills p f all less is = (item_holds (IsWithin size) fills p f all less is).end

@@ -1,5 +1,5 @@
 -- Threads and parts at the start.
-use Rattle.std.proofs.Common.{ℕ, ◌≡◌, ◌≤◌, ◌+◌, ◌∷◌, ◌∙◌, [], Bool, true, false, not, List, Some, None, length, map, nat_lt, refl, replicate, sym, subst, ap, arith, IfOk, if◌then◌else◌}
+use Rattle.std.proofs.Common.{ℕ, ◌≡◌, ◌≤◌, ◌+◌, ◌∷◌, ◌∙◌, [], Bool, true, false, not, List, Some, None, length, map, nat_lt, refl, sym, subst, ap, arith, IfOk, if◌then◌else◌}
 use Rattle.std.specs.List.{AllByRecursion, range_with_len}
 use Rattle.std.specs.declared.result.Result.{Result}
 use Rattle.std.proofs.lemmas.Bool.Decides.{nat_tests}
