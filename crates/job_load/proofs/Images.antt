@@ -1,12 +1,14 @@
 -- Images of memory.
-use Rattle.std.proofs.Common.{ℕ, ◌≡◌, ◌≤◌, ◌<◌, ◌+◌, ◌-◌, ◌==◌, ◌∷◌, ◌++◌, ◌∙◌, [], Bool, true, false, cond, List, length, drop, take, get_or, set, replicate, zero, suc, refl, sym, ap, arith, append_assoc, inl, inr, length-append, if◌then◌else◌}
+use Rattle.std.proofs.Common.{ℕ, ◌≡◌, ◌≤◌, ◌<◌, ◌+◌, ◌-◌, ◌∷◌, ◌++◌, ◌∙◌, [], List, length, drop, take, get_or, replicate, refl, sym, ap, arith, append_assoc, length-append, subst}
 use Rattle.std.specs.List.{AllByRecursion}
-use Rattle.std.proofs.lemmas.Bool.{cases_eq, eq-eqb, ne_eqb}
-use Rattle.std.proofs.lemmas.List.{append-nil, drop-append-le, drop_all, get_or-set_other, get_or-set_same, length-drop, length-replicate, length-take-le, replicate-append-replicate, take-append-le}
+use Rattle.std.proofs.lemmas.List.{append-nil, drop-append-le, drop_all, get_or_default, length-drop, length-replicate, length-take-le, replicate-append-replicate, take-append-le}
+use Rattle.std.proofs.lemmas.List.{append-nil, drop-append-le, drop_all, get_or_default, length-drop, length-replicate, length-take-le, replicate-append-replicate, take-append-le}
 use Rattle.job_text.specs.declared.job.FillLine.{FillLine}
-use Rattle.job_load.specs.Images.{AreImages, IsWithin, fills_of, image_at, image_with, laid, memory_of, overlaid}
+use Rattle.job_load.specs.Groups.{ArePlaces, fills_at, no_fill}
+use Rattle.job_load.specs.Images.{IsImage, IsWithin, image_with, laid, overlaid}
 use Rattle.tn_pages.specs.Paged.{filled}
 use Rattle.job_faults.proofs.Ranges.{rest_first}
+use Rattle.job_load.proofs.Grouped.{item_holds}
 
 -- what is long enough is not filled up
 pub filled_none : (size : ℕ) (image : List ℕ) → size ≤ length image → filled size image ≡ image
@@ -62,72 +64,42 @@ laid_few size image address bytes h few =
     let within : address + length bytes ≤ length grown = omega arith in
     omega (arith, laid_more grown address bytes within)
 
--- Images of all threads.
+-- The image after more fills.
 
-pub no_image : (images : List (List ℕ)) (k : ℕ) → image_at (images ++ [] ∷ []) k ≡ image_at images k
-no_image [] zero = refl
-no_image [] (suc k) = refl
-no_image (x ∷ xs) zero = refl
-no_image (x ∷ xs) (suc k) = no_image xs k
+-- what the fills that are left make of the image is what all make of a memory of zeros
+pub record Leads (size : ℕ) (all rest : List FillLine) (image : List ℕ) : Type 0 where
+  pub memory : overlaid (filled size image) rest ≡ overlaid (replicate size 0) all
+  pub few : length image ≤ size
 
--- one image is written
-pub one_image : (images : List (List ℕ)) (thread k : ℕ) (image : List ℕ) → thread < length images →
-    image_at (set images thread image) k ≡ (if thread == k then image else image_at images k)
-one_image images thread k image h = elim (cases_eq thread k) [
-  | inl e ↦ rw (← e, eq-eqb thread thread refl) (get_or-set_same images thread image [] h)
-  | inr ne ↦ rw (ne_eqb thread k ne) (get_or-set_other images thread k image [] (λ e. ne (sym e)))
-]
-
--- The images after more fills.
-
--- what the fills that are left make of the images is what all make of memories of zeros
-pub record Leads (size : ℕ) (fills rest : List FillLine) (images : List (List ℕ)) : Type 0 where
-  pub memory : (thread : ℕ) → overlaid (filled size (image_at images thread)) (fills_of thread rest) ≡ memory_of size fills thread
-  pub few : (thread : ℕ) → length (image_at images thread) ≤ size
-  pub within : AllByRecursion (IsWithin size) rest
-
--- what one fill makes of the images
-abbrev pub Puts : FillLine → List (List ℕ) → List (List ℕ) → Type 0
-Puts f images new = (k : ℕ) → image_at new k ≡ (if f.thread == k then image_with (image_at images k) f.address f.bytes else image_at images k)
-
-memory_step : (size : ℕ) (f : FillLine) (rest : List FillLine) (old new : List ℕ) (here : Bool) → f.address + length f.bytes ≤ size →
-    new ≡ (if here then image_with old f.address f.bytes else old) →
-    overlaid (filled size new) rest ≡ overlaid (filled size old) (cond here (f ∷ rest) rest)
-memory_step size f rest old new true within e = ap (λ m. overlaid (filled size m) rest) e ∙ ap (λ m. overlaid m rest) (laid_filled size old f.address f.bytes within)
-memory_step size f rest old new false within e = ap (λ m. overlaid (filled size m) rest) e
-
-few_step : (size : ℕ) (f : FillLine) (old new : List ℕ) (here : Bool) → f.address + length f.bytes ≤ size → length old ≤ size →
-    new ≡ (if here then image_with old f.address f.bytes else old) → length new ≤ size
-few_step size f old new true within few e = omega (arith, ap length e, laid_few size old f.address f.bytes within few)
-few_step size f old new false within few e = omega (arith, ap length e)
-
-leads_step : (size : ℕ) (fills : List FillLine) (f : FillLine) (rest : List FillLine) (images new : List (List ℕ)) → Leads size fills (f ∷ rest) images → Puts f images new → Leads size fills rest new
-leads_step size fills f rest images new l puts = record {
-  memory = λ k. memory_step size f (fills_of k rest) (image_at images k) (image_at new k) (f.thread == k) l.within.0.end (puts k) ∙ l.memory k;
-  few = λ k. few_step size f (image_at images k) (image_at new k) (f.thread == k) l.within.0.end (l.few k) (puts k);
-  within = l.within.1;
+pub leads_first : (size : ℕ) (all : List FillLine) → Leads size all all []
+leads_first size all = record {
+  memory = let e : size - 0 ≡ size = omega arith in ap (λ n. overlaid (replicate n 0) all) e;
+  few = omega arith;
 }
 
-pub leads_more : (size : ℕ) (fills : List FillLine) (i : ℕ) (f : FillLine) (images new : List (List ℕ)) → i < length fills → f ≡ get_or fills i f →
-    Leads size fills (drop i fills) images → Puts f images new → Leads size fills (drop (i + 1) fills) new
-leads_more size fills i f images new h is l puts =
-    let first : Leads size fills (f ∷ drop (i + 1) fills) images = rw (rest_first fills i f h is) at l in
-    leads_step size fills f (drop (i + 1) fills) images new first puts
-
-pub leads_first : (size : ℕ) (fills : List FillLine) → AllByRecursion (IsWithin size) fills → Leads size fills fills []
-leads_first size fills all = record {
-  memory = λ k. let e : size - 0 ≡ size = omega arith in ap (λ n. overlaid (replicate n 0) (fills_of k fills)) e;
-  few = λ k. omega arith;
-  within = all;
+leads_step : (size : ℕ) (all : List FillLine) (f : FillLine) (rest : List FillLine) (image new : List ℕ) → f.address + length f.bytes ≤ size →
+    Leads size all (f ∷ rest) image → new ≡ image_with image f.address f.bytes → Leads size all rest new
+leads_step size all f rest image new within l e = record {
+  memory = ap (λ m. overlaid (filled size m) rest) e ∙ ap (λ m. overlaid m rest) (laid_filled size image f.address f.bytes within) ∙ l.memory;
+  few = omega (arith, ap length e, laid_few size image f.address f.bytes within l.few);
 }
 
-pub leads_done : (size : ℕ) (fills : List FillLine) (i : ℕ) (images : List (List ℕ)) → length fills ≤ i → Leads size fills (drop i fills) images → AreImages size fills images
-leads_done size fills i images h l =
-    let done : Leads size fills [] images = rw (drop_all i fills h) at l in
+pub leads_more : (size : ℕ) (fills : List FillLine) (places : List ℕ) (i : ℕ) (f : FillLine) (image new : List ℕ) →
+    i < length places → ArePlaces fills places → AllByRecursion (IsWithin size) fills → f ≡ get_or fills (get_or places i 0) f →
+    Leads size (fills_at fills places) (fills_at fills (drop i places)) image → new ≡ image_with image f.address f.bytes →
+    Leads size (fills_at fills places) (fills_at fills (drop (i + 1) places)) new
+leads_more size fills places i f image new h there within item l e =
+    let p : ℕ = get_or places i 0 in
+    let is : p ≡ get_or places i p = get_or_default places i 0 p h in
+    let less : p < length fills = item_holds (λ k. k < length fills) places i p there h is in
+    let here : get_or fills p no_fill ≡ f = sym (item ∙ get_or_default fills p f no_fill less) in
+    let rest : fills_at fills (drop i places) ≡ f ∷ fills_at fills (drop (i + 1) places) =
+    ap (fills_at fills) (rest_first places i p h is) ∙ ap (λ g. g ∷ fills_at fills (drop (i + 1) places)) here in
+    let P : List FillLine → Type 0 = λ fs. Leads size (fills_at fills places) fs image in
+    leads_step size (fills_at fills places) f (fills_at fills (drop (i + 1) places)) image new (item_holds (IsWithin size) fills p f within less item).end (subst P rest l) e
+
+pub leads_done : (size : ℕ) (fills : List FillLine) (places : List ℕ) (i : ℕ) (image : List ℕ) → length places ≤ i →
+    Leads size (fills_at fills places) (fills_at fills (drop i places)) image → IsImage size (fills_at fills places) image
+leads_done size fills places i image h l =
+    let done : Leads size (fills_at fills places) [] image = rw (drop_all i places h) at l in
     record { memory = done.memory; few = done.few }
-
-pub within_now : (size : ℕ) (fills : List FillLine) (i : ℕ) (f : FillLine) (images : List (List ℕ)) → i < length fills → f ≡ get_or fills i f →
-    Leads size fills (drop i fills) images → f.address + length f.bytes ≤ size
-within_now size fills i f images h is l =
-    let first : Leads size fills (f ∷ drop (i + 1) fills) images = rw (rest_first fills i f h is) at l in
-    first.within.0.end

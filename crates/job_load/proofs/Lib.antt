@@ -2,6 +2,7 @@ pub mod Accepted
 pub mod Devices
 pub mod Fits
 pub mod Fresh
+pub mod Grouped
 pub mod Images
 pub mod Memory
 pub mod Named

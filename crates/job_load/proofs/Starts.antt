@@ -23,10 +23,11 @@ use Rattle.job_faults.specs.declared.fault.FaultName.TheVariants as fault
 use Rattle.job_faults.specs.Assembly.{sections_of}
 use Rattle.job_faults.specs.Code.{code_of}
 use Rattle.job_faults.specs.Faults.{beat_fault, beat_lines, code_fault, fault_at, fill_fault, place_fault, section_fault, send_fault, soonest}
-use Rattle.job_load.specs.Images.{AreImages, IsWithin, image_at, memory_of}
+use Rattle.job_load.specs.Groups.{AreGroups, fills_at, group_at}
+use Rattle.job_load.specs.Images.{IsImage, IsWithin, fills_of, memory_of}
 use Rattle.tn_pages.specs.Paged.{filled, started_with}
 use Rattle.job_faults.specs.Mapping.{graph_mapped}
-use Rattle.job_load.specs.Start.{by_address, part_start, start_of, thread_by, thread_over, thread_start, tile_start}
+use Rattle.job_load.specs.Start.{by_address, filled_thread, part_start, start_of, thread_by, thread_start, tile_start}
 use Rattle.job_faults.proofs.Faults.{NoneFound, none_of_five, none_soonest}
 use Rattle.job_load.proofs.Images.{filled_long, filled_none}
 use Rattle.job_faults.proofs.Ranges.{map_same}
@@ -36,30 +37,27 @@ use Rattle.job_faults.proofs.Ranges.{map_same}
 same_start : (n : ShapeNumbers) (id : ThreadId) (a b : List ℕ) → filled n.mem a ≡ filled n.mem b → started n id a None ≡ started n id b None
 same_start n id a b e = ap (λ m. record (started n id [] None) { mem = started_with n.mem m }) e
 
--- a thread over its image is the thread over the whole memory that the image stands for
-pub thread_same : (n : ShapeNumbers) (fills : List FillLine) (images : List (List ℕ)) → AreImages n.mem fills images → (thread : ℕ) →
-    thread_over n images thread ≡ started n (record { 0 = thread }) (memory_of n.mem fills thread) None
-thread_same n fills images are thread =
-    let long : length (memory_of n.mem fills thread) ≡ n.mem = ap length (sym (are.memory thread)) ∙ filled_long n.mem (image_at images thread) (are.few thread) in
-    let whole : filled n.mem (memory_of n.mem fills thread) ≡ memory_of n.mem fills thread = filled_none n.mem (memory_of n.mem fills thread) (omega arith) in
-    same_start n (record { 0 = thread }) (image_at images thread) (memory_of n.mem fills thread) (are.memory thread ∙ sym whole)
+-- a thread that was made of the image of its fills is the thread over the whole memory that the image stands for
+thread_filled : (n : ShapeNumbers) (fills : List FillLine) (id : ThreadId) (image : List ℕ) → IsImage n.mem (fills_of id.0 fills) image → started n id image None ≡ filled_thread n fills id.0
+thread_filled n fills id image is =
+    let long : length (memory_of n.mem fills id.0) ≡ n.mem = ap length (sym is.memory) ∙ filled_long n.mem image is.few in
+    let whole : filled n.mem (memory_of n.mem fills id.0) ≡ memory_of n.mem fills id.0 = filled_none n.mem (memory_of n.mem fills id.0) (omega arith) in
+    same_start n id image (memory_of n.mem fills id.0) (is.memory ∙ sym whole)
 
--- a thread of a job without a graph
-thread_plain : (job : Job) (thread : ℕ) → graph_mapped job ≡ None → thread_start job thread ≡ started job.numbers (record { 0 = thread }) (memory_of job.numbers.mem job.fills thread) None
-thread_plain job thread none = ap (λ m. thread_by job m thread) none
+pub thread_made : (n m : ShapeNumbers) (fills : List FillLine) (groups : List (List ℕ)) (id : ThreadId) (a : ℕ) (places image : List ℕ) (thread : Thread) →
+    m ≡ n → AreGroups fills groups → id.0 ≡ a → places ≡ group_at groups id.0 → IsImage m.mem (fills_at fills places) image → thread ≡ started n id image None → thread ≡ filled_thread n fills a
+thread_made n m fills groups id a places image thread e are f g is made =
+    let fs : fills_at fills places ≡ fills_of id.0 fills = ap (fills_at fills) g ∙ are.each id.0 in
+    let P : List FillLine → Type 0 = λ all. IsImage n.mem all image in
+    let Q : ShapeNumbers → Type 0 = λ k. IsImage k.mem (fills_at fills places) image in
+    made ∙ thread_filled n fills id image (subst P fs (subst Q e is)) ∙ ap (filled_thread n fills) f
 
-pub threads_same : (n : ShapeNumbers) (job : Job) (images : List (List ℕ)) (tile : ℕ) → n ≡ job.numbers → graph_mapped job ≡ None → AreImages n.mem job.fills images →
-    by_address (thread_over n images) n tile ≡ by_address (thread_start job) n tile
-threads_same n job images tile e none are =
-    map_same (λ k. thread_over n images (in_tile n tile k)) (λ k. thread_start job (in_tile n tile k)) (range_with_len 0 (tile_threads n))
-    (λ k. thread_same n job.fills images are (in_tile n tile k) ∙ ap (λ m. started m (record { 0 = in_tile n tile k }) (memory_of m.mem job.fills (in_tile n tile k)) None) e
-    ∙ sym (thread_plain job (in_tile n tile k) none))
-
--- a thread that was made is the one over its image
-pub thread_made : (n : ShapeNumbers) (images : List (List ℕ)) (id : ThreadId) (a : ℕ) (image : List ℕ) (thread : Thread) →
-    id.0 ≡ a → image ≡ image_at images id.0 → thread ≡ started n id image None → thread ≡ thread_over n images a
-thread_made n images id a image thread e f g =
-    g ∙ ap (λ m. started n id m None) f ∙ ap (λ b. thread_over n images b) e
+-- the threads of a tile of a job without a graph
+pub threads_same : (n : ShapeNumbers) (job : Job) (tile : ℕ) → n ≡ job.numbers → graph_mapped job ≡ None →
+    by_address (filled_thread n job.fills) n tile ≡ by_address (thread_start job) n tile
+threads_same n job tile e none =
+    map_same (λ k. filled_thread n job.fills (in_tile n tile k)) (λ k. thread_start job (in_tile n tile k)) (range_with_len 0 (tile_threads n))
+    (λ k. ap (λ m. filled_thread m job.fills (in_tile n tile k)) e ∙ sym (ap (λ m. thread_by job m (in_tile n tile k)) none))
 
 -- a tile that was made is the one of the job
 pub tile_made : (n : ShapeNumbers) (job : Job) (tile : ℕ) (words : List ℕ) (threads : List Thread) →

@@ -1,5 +1,5 @@
 -- The memory of threads at the start.
-use Rattle.std.specs.Prelude.{ℕ, ◌≡◌, ◌≤◌, ◌+◌, ◌==◌, ◌++◌, List, [], ◌∷◌, drop, filter, length, replicate, slice_index_or, take}
+use Rattle.std.specs.Prelude.{ℕ, ◌≡◌, ◌≤◌, ◌+◌, ◌==◌, ◌++◌, List, [], ◌∷◌, drop, filter, length, replicate, take}
 use Rattle.job_text.specs.declared.job.FillLine.{FillLine}
 use Rattle.tn_pages.specs.Paged.{filled}
 
@@ -25,15 +25,11 @@ memory_of size fills thread = overlaid (replicate size 0) (fills_of thread fills
 abbrev pub image_with : List ℕ → ℕ → List ℕ → List ℕ
 image_with image address bytes = laid (filled (address + length bytes) image) address bytes
 
--- the image at a thread's address
-abbrev pub image_at : List (List ℕ) → ℕ → List ℕ
-image_at images thread = slice_index_or images thread []
-
 -- a fill ends within a memory of this size
 pub record IsWithin (size : ℕ) (f : FillLine) : Type 0 where
   pub end : f.address + length f.bytes ≤ size
 
--- the images of the threads after fills
-pub record AreImages (size : ℕ) (fills : List FillLine) (images : List (List ℕ)) : Type 0 where
-  pub memory : (thread : ℕ) → filled size (image_at images thread) ≡ memory_of size fills thread
-  pub few : (thread : ℕ) → length (image_at images thread) ≤ size
+-- an image of a memory of zeros, of this size, after fills
+pub record IsImage (size : ℕ) (fills : List FillLine) (image : List ℕ) : Type 0 where
+  pub memory : filled size image ≡ overlaid (replicate size 0) fills
+  pub few : length image ≤ size

@@ -1,4 +1,5 @@
 pub mod Graph
+pub mod Groups
 pub mod Images
 pub mod Laws
 pub mod Loaded

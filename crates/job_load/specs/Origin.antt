@@ -14,7 +14,7 @@ use Rattle.job_faults.specs.ReadTables.{as_read}
 use Rattle.job_load.specs.declared.origin.Origin.{Origin}
 use Rattle.job_load.specs.declared.origin.Origin.TheVariants.{Sections, Graph}
 use Rattle.job_load.specs.Graph.{seated_in}
-use Rattle.job_load.specs.Images.{AreImages}
+use Rattle.job_load.specs.Groups.{AreGroups}
 use Rattle.job_load.specs.SeatedModel.{SeatedModel}
 
 -- these are what the job's graph gives
@@ -27,7 +27,7 @@ pub record ComesOfGraph (job : Job) (flits : ℕ) (threads : List SeatedModel) (
 
 -- the origin is the job's: its graph, or its sections if it has no graph
 abbrev pub ComesFrom : Job → Origin → Type 0
-ComesFrom job (Sections images tables) = (graph_mapped job ≡ None) × AreImages job.numbers.mem job.fills images × (tables ≡ map (as_read job.version) job.tables)
+ComesFrom job (Sections groups tables) = (graph_mapped job ≡ None) × AreGroups job.fills groups × (tables ≡ map (as_read job.version) job.tables)
 ComesFrom job (Graph flits threads tables) = ComesOfGraph job flits threads.items tables
 
 -- the numbers, the assembly and the origin are those of a job without a fault

@@ -17,13 +17,14 @@ use Rattle.tn_thread.specs.declared.thread.Thread.{Thread}
 use Rattle.tn_thread.specs.Step.{started}
 use Rattle.tn_tile.specs.Kept.{fresh_tile}
 use Rattle.tn_tile.specs.TileView.{TileView}
+use Rattle.job_text.specs.declared.job.FillLine.{FillLine}
 use Rattle.job_text.specs.declared.job.Job.{Job}
 use Rattle.job_faults.specs.declared.map.Mapped.{Mapped}
 use Rattle.job_faults.specs.Assembly.{sections_of}
 use Rattle.job_faults.specs.Code.{code_of}
 use Rattle.job_faults.specs.Mapping.{graph_mapped}
 use Rattle.job_load.specs.Graph.{place_of, seated_in, thread_with}
-use Rattle.job_load.specs.Images.{image_at, memory_of}
+use Rattle.job_load.specs.Images.{memory_of}
 use Rattle.job_load.specs.Script.{script_of}
 use Rattle.job_faults.specs.Tables.{table_for}
 
@@ -31,18 +32,18 @@ use Rattle.job_faults.specs.Tables.{table_for}
 abbrev pub by_address : (ℕ → Thread) → ShapeNumbers → ℕ → List Thread
 by_address thread n tile = map (λ k. thread (in_tile n tile k)) (range_with_len 0 (tile_threads n))
 
+-- a thread without firmware whose memory is what these fills say
+abbrev pub filled_thread : ShapeNumbers → List FillLine → ℕ → Thread
+filled_thread n fills thread = started n (record { 0 = thread }) (memory_of n.mem fills thread) None
+
 abbrev pub thread_by : Job → Option Mapped → ℕ → Thread
-thread_by job None thread = started job.numbers (record { 0 = thread }) (memory_of job.numbers.mem job.fills thread) None
+thread_by job None thread = filled_thread job.numbers job.fills thread
 thread_by job (Some m) thread = thread_with job.numbers m.graph.flits thread (seated_in job m (place_of job.numbers thread))
 
 -- a thread at its start. In a job without a graph its memory is what the job's fills say. In a graph's job the thread has firmware for
 -- messages of the graph's flits, its memory begins with the states of its vertices, and its softswitch has their devices
 abbrev pub thread_start : Job → ℕ → Thread
 thread_start job thread = thread_by job (graph_mapped job) thread
-
--- the same over an image, which has zeros behind it
-abbrev pub thread_over : ShapeNumbers → List (List ℕ) → ℕ → Thread
-thread_over n images thread = started n (record { 0 = thread }) (image_at images thread) None
 
 -- a tile at its start, over its code and its threads: nothing was sent yet, and nothing was dropped
 abbrev pub tile_start : Job → ℕ → TileView

@@ -5,6 +5,7 @@
 #![tactic(auto)]
 
 mod graph;
+mod groups;
 mod image;
 pub mod laws;
 pub mod load;

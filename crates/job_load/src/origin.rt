@@ -1,18 +1,16 @@
 //! Where the threads and tables of a job's machine come from.
 
 ghost use Rattle.std.specs.Prelude.{◌≡◌, IfOk, Some, map};
-ghost use Rattle.std.specs.List.{AllByRecursion};
 ghost use Rattle.tn_keys.specs.Tables.{HasBoard};
 ghost use Rattle.job_faults.specs.Assembly.{labels_of};
 ghost use Rattle.job_faults.specs.Mapping.{graph_mapped};
 ghost use Rattle.job_faults.specs.ReadTables.{as_read};
 ghost use Rattle.job_load.specs.Graph.{FitsGraph, FitsMachine};
-ghost use Rattle.job_load.specs.Images.{IsWithin};
 ghost use Rattle.job_load.specs.Origin.{ComesFrom};
 ghost use Rattle.job_load.specs.Start.{board_table};
 
 use crate::graph::{Seated, seat_threads};
-use crate::image::Images;
+use crate::groups::FillGroups;
 use asm_build::labels::Labels;
 use job_faults::handlers::entries_in;
 use job_faults::map::Mapped;
@@ -31,7 +29,7 @@ use tn_text::items::Items;
 pub(crate) enum Origin {
     /// The fills and the table sections of a job without a graph.
     Sections {
-        images: Images,
+        groups: FillGroups,
         tables: Items<ReadTable>,
     },
     /// A graph, whose messages have so many flits: its threads by ascending address, and its tables.
@@ -82,7 +80,6 @@ impl Origin {
         mapped: Option<Mapped>,
     ) -> Result<Origin, AllocError>
         requires shape { shape.now ≡ job.now.numbers }
-        requires fills { AllByRecursion (IsWithin shape.now.mem) job.now.fills }
         requires labels { labels.now ≡ labels_of job.now.asms }
         requires tables { tables ≡ map (as_read job.now.version) job.now.tables }
         requires mapped { mapped ≡ graph_mapped job.now }
@@ -92,9 +89,8 @@ impl Origin {
         match mapped {
             Some(mapped) => graph_origin(alloc, job, shape, labels, mapped),
             None => {
-                let mem = shape.numbers().mem;
-                let images = Images::of(alloc, mem, job.fills.as_slice())?;
-                Ok(Origin::Sections { images, tables })
+                let groups = FillGroups::of(alloc, job.fills.as_slice())?;
+                Ok(Origin::Sections { groups, tables })
             }
         }
     }

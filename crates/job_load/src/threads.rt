@@ -1,20 +1,22 @@
 //! The threads of a tile at the start.
 
 ghost use Rattle.std.specs.Prelude.{◌≡◌, ◌≤◌, ◌<◌, ℕ, IfOk, IsTrue, Some, length, map};
-ghost use Rattle.std.specs.List.{range_with_len};
+ghost use Rattle.std.specs.List.{AllByRecursion, range_with_len};
 ghost use Rattle.tn_base.specs.Address.{has_tile, tile_threads};
 ghost use Rattle.tn_base.specs.Shape.{thread_count};
 ghost use Rattle.tn_tile.specs.Kept.{FitsFirmware, with_switches};
 ghost use Rattle.job_faults.specs.Mapping.{graph_mapped};
 ghost use Rattle.job_load.specs.Graph.{FitsGraph, bare_thread, seat_in, seats_on};
-ghost use Rattle.job_load.specs.Images.{image_at};
+ghost use Rattle.job_load.specs.Groups.{AreGroups};
+ghost use Rattle.job_load.specs.Images.{IsWithin};
 ghost use Rattle.job_load.specs.Origin.{ComesFrom};
-ghost use Rattle.job_load.specs.Start.{by_address, thread_over, thread_start};
+ghost use Rattle.job_load.specs.Start.{by_address, filled_thread, thread_start};
 
 use crate::graph::Seated;
-use crate::image::Images;
+use crate::groups::FillGroups;
+use crate::image::Image;
 use crate::origin::Origin;
-use job_text::job::Job;
+use job_text::job::{FillLine, Job};
 use polite_switch::switch::Switch;
 use std::alloc::{AllocError, Global};
 use tn_base::ids::TileId;
@@ -29,22 +31,27 @@ pub(crate) struct TileThreads {
     pub switches: Vec<Switch>,
 }
 
-/// The threads of a tile over their images.
-fn threads_over(
+/// The threads of a tile over their fills: each thread is made of the one image, which is laid anew for it.
+fn filled_threads(
     alloc: Global,
     shape: &Shape,
-    images: &Images,
+    fills: &[FillLine],
+    groups: &FillGroups,
     tile: TileId,
 ) -> Result<Vec<Thread>, AllocError>
     requires tile { IsTrue (has_tile shape.now tile.0) }
-    requires images { (k : ℕ) → length (image_at images.now k) ≤ shape.now.mem }
-    ensures { IfOk result (λ threads. threads.items ≡ by_address (thread_over shape.now images.now) shape.now tile.0) }
+    requires within { AllByRecursion (IsWithin shape.now.mem) fills.now }
+    requires groups { AreGroups fills.now groups.now }
+    ensures { IfOk result (λ threads. threads.items ≡ by_address (filled_thread shape.now fills.now) shape.now tile.0) }
 {
     let count = shape.tile_threads();
+    let mem = shape.numbers().mem;
+    let mut image = Image::new(alloc);
     let mut threads = Vec::with_capacity(alloc, count as usize)?;
     for place in 0..count {
         let id = shape.thread_in_tile(tile, place);
-        let thread = Thread::start(alloc, shape, id, images.image(id), None)?;
+        image.lay(mem, fills, groups.places(id))?;
+        let thread = Thread::start(alloc, shape, id, image.as_slice(), None)?;
         threads.push(thread)?;
     }
     Ok(threads)
@@ -109,6 +116,7 @@ impl TileThreads {
     ) -> Result<TileThreads, AllocError>
         requires tile { IsTrue (has_tile shape.now tile.0) }
         requires shape { shape.now ≡ job.now.numbers }
+        requires fills { AllByRecursion (IsWithin shape.now.mem) job.now.fills }
         requires origin { ComesFrom job.now origin.now }
         requires fits { FitsGraph job.now (graph_mapped job.now) }
         ensures threads { IfOk result (λ t. with_switches t.threads.items t.switches.items ≡ by_address (thread_start job.now) shape.now tile.0) }
@@ -116,8 +124,8 @@ impl TileThreads {
     {
         let _numbers = shape.numbers();
         match origin {
-            Origin::Sections { images, .. } => Ok(TileThreads {
-                threads: threads_over(alloc, shape, images, tile)?,
+            Origin::Sections { groups, .. } => Ok(TileThreads {
+                threads: filled_threads(alloc, shape, job.fills.as_slice(), groups, tile)?,
                 switches: Vec::new(alloc),
             }),
             Origin::Graph { flits, threads, .. } => {

@@ -1,11 +1,7 @@
 use Rattle.std.proofs.Common.{sym}
-use Rattle.job_faults.proofs.Faultless.{each_none}
 use Rattle.job_load.proofs.Fits.{fits_graph}
-use Rattle.job_load.proofs.Starts.{fills_within, world_made}
+use Rattle.job_load.proofs.Starts.{world_made}
 use Rattle.job_load.proofs.start.start_of.Goals as goal
-
-pub of-requires-clause-fills : goal.of-requires-clause-fills
-of-requires-clause-fills c = rw c.requires.shape (fills_within c.args.job.now (each_none c.args.job.now c.requires.faultless).sections)
 
 pub of-requires-clause-fits : goal.of-requires-clause-fits
 of-requires-clause-fits c = fits_graph c.args.job.now c.args.checked.read.mapped c.requires.faultless (sym c.requires.read.graph)

@@ -1,8 +1,13 @@
 use Rattle.std.proofs.Common.{refl}
 use Rattle.job_faults.specs.Mapping.{graph_mapped}
+use Rattle.job_faults.proofs.Faultless.{each_none}
 use Rattle.job_load.proofs.Accepted.{starts_there}
 use Rattle.job_load.proofs.Fits.{fits_graph}
+use Rattle.job_load.proofs.Starts.{fills_within}
 use Rattle.job_load.proofs.start.tile_of.Goals as goal
+
+pub of-requires-clause-fills : goal.of-requires-clause-fills
+of-requires-clause-fills c = rw c.requires.made.shape (fills_within c.args.job.now (each_none c.args.job.now c.requires.made.faultless).sections)
 
 pub of-requires-clause-fits : goal.of-requires-clause-fits
 of-requires-clause-fits c = fits_graph c.args.job.now (graph_mapped c.args.job.now) c.requires.made.faultless refl
