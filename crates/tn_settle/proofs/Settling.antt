@@ -1,5 +1,5 @@
 -- What a cut of the merge is.
-use Rattle.std.proofs.Common.{◌≡◌, ◌∙◌, ◌⊎◌, inl, inr, ℕ, Bool, true, false, List, None, Some, refl, sym, ap, subst, take, is_some, MatchOption}
+use Rattle.std.proofs.Common.{◌≡◌, ◌∙◌, ◌⊎◌, inl, inr, ℕ, Bool, true, false, List, None, Some, refl, sym, ap, subst, take, is_some, not, ◌||◌, ◌&&◌, MatchOption}
 use Rattle.std.specs.declared.option.Option.{Option}
 use Rattle.std.specs.List.{All}
 use Rattle.tn_base.specs.declared.event.Event.{Event}
@@ -18,7 +18,8 @@ use Rattle.tn_stamp.specs.declared.entry.Entry.{Entry}
 use Rattle.tn_stamp.specs.Merging.{IsMerge}
 use Rattle.tn_settle.proofs.Ends.{calm_none, merge_quiet, none_calm, parts_calm}
 use Rattle.tn_settle.proofs.Quiet.{Quiet, cut_quiet, quiet_cut}
-use Rattle.tn_settle.specs.Settles.{CanHappen, IsHistory, some_ended}
+use Rattle.tn_settle.proofs.Whole.{whole_by_last, whole_if_calm}
+use Rattle.tn_settle.specs.Settles.{CanHappen, EndsByLast, IsHistory, some_ended}
 
 no_outcome : (o : Option Outcome) → is_some o ≡ false → o ≡ None
 no_outcome None e = refl
@@ -100,3 +101,24 @@ settled_by n parts all js whole events kept count start end link same_parts stam
     let settled = is_settled n parts link stamped are whole (take count whole) end merged from in
     let kept_is : IsSettled n parts (machine n (starts_of parts)) kept end = subst (λ es. IsSettled n parts (machine n (starts_of parts)) es end) (sym same_kept) settled in
     subst (λ ps. IsSettled n ps (machine n (starts_of ps)) kept end) same_parts kept_is
+
+-- the whole merge is the history
+pub whole_by : (n : ShapeNumbers) (parts all : List StampedView) (js : List (List Entry)) (whole : List Event) (start end : WorldView) (ended by_last : Bool) → Behind n → parts ≡ all → All IsStamped parts → AreJournals n parts
+    → js ≡ journals_of parts → IsMerge js whole → start ≡ machine n (starts_of parts) → end ≡ machine n (presents_of parts) → ended ≡ some_ended all → (by_last ≡ true → EndsByLast all)
+    → (not ended || (by_last && is_some (final_after (last_of whole) end))) ≡ true → IsSettled n all (machine n (starts_of all)) whole end
+whole_by n parts all js whole start end ended by_last link same_parts stamped are same_journals merge same_start same_end ended_is last_is test =
+    let merged : IsMerge (journals_of parts) whole = subst (λ k. IsMerge k whole) same_journals merge in
+    let none : ended ≡ false → some_ended parts ≡ false = λ no. ap some_ended same_parts ∙ sym ended_is ∙ no in
+    let last : by_last ≡ true → EndsByLast parts = λ yes. subst EndsByLast (sym same_parts) (last_is yes) in
+    let here : is_some (final_after (last_of whole) end) ≡ true → is_some (final_after (last_of whole) (machine n (presents_of parts))) ≡ true = λ is. subst (λ w. is_some (final_after (last_of whole) w) ≡ true) same_end is in
+    let cut = cut_by none last here ended by_last (is_some (final_after (last_of whole) end)) refl refl refl test merged in
+    let settled = is_settled n parts link stamped are whole whole (machine n (presents_of parts)) merged cut in
+    let ended_here : IsSettled n parts (machine n (starts_of parts)) whole end = subst (IsSettled n parts (machine n (starts_of parts)) whole) (sym same_end) settled in
+    subst (λ ps. IsSettled n ps (machine n (starts_of ps)) whole end) same_parts ended_here
+  where
+    cut_by : (ended ≡ false → some_ended parts ≡ false) → (by_last ≡ true → EndsByLast parts) → (is_some (final_after (last_of whole) end) ≡ true → is_some (final_after (last_of whole) (machine n (presents_of parts))) ≡ true)
+        → (e b f : Bool) → ended ≡ e → by_last ≡ b → is_some (final_after (last_of whole) end) ≡ f → (not e || (b && f)) ≡ true → IsMerge (journals_of parts) whole → IsCut (machine n (starts_of parts)) whole whole (machine n (presents_of parts))
+    cut_by none last here false b f e_is b_is f_is test merged = whole_if_calm n parts link stamped are whole (none e_is) merged
+    cut_by none last here true true true e_is b_is f_is test merged = whole_by_last n parts link stamped are whole (last b_is) merged (here f_is)
+    cut_by none last here true true false e_is b_is f_is test merged = cc test
+    cut_by none last here true false f e_is b_is f_is test merged = cc test

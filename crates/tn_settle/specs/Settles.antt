@@ -1,11 +1,12 @@
 -- The run that all parts of a machine made together.
-use Rattle.std.specs.Prelude.{Bool, List, is_some}
-use Rattle.std.specs.List.{list_any}
+use Rattle.std.specs.Prelude.{◌≡◌, ◌≤◌, ℕ, Bool, List, Some, filter, is_some, length}
+use Rattle.std.specs.List.{All, list_any}
 use Rattle.tn_base.specs.declared.event.Event.{Event}
 use Rattle.tn_rows.specs.Cuts.{IsCut}
 use Rattle.tn_rows.specs.Runs.{Walk}
 use Rattle.tn_rows.specs.Stamped.{StampedView, first_final, journals_of}
 use Rattle.tn_rows.specs.WorldView.{WorldView}
+use Rattle.tn_stamp.specs.Journals.{last_stamp}
 use Rattle.tn_stamp.specs.Merging.{IsMerge}
 
 -- an event of a part's journal is final
@@ -24,3 +25,12 @@ pub record IsHistory (parts : List StampedView) (start : WorldView) (history : L
   pub whole : List Event
   pub merged : IsMerge (journals_of parts) whole
   pub cut : IsCut start whole history end
+
+-- the first final event of the part's journal, if there is one, is the journal's last event
+abbrev pub IsLastFinal : StampedView → Type 0
+IsLastFinal s = (stamp : ℕ) → first_final s.entries s.start ≡ Some stamp → last_stamp 0 s.entries ≡ stamp
+
+-- at most one part has ended, and by the last event of its journal
+pub record EndsByLast (parts : List StampedView) : Type 0 where
+  pub few : length (filter has_ended parts) ≤ 1
+  pub last : All IsLastFinal parts

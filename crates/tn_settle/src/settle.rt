@@ -1,18 +1,18 @@
 //! The run that placed parts made.
 
-ghost use Rattle.std.specs.Prelude.{◌≡◌, ◌⊎◌, IfOk, false, is_some, map, take, true};
+ghost use Rattle.std.specs.Prelude.{◌≡◌, ◌||◌, ◌&&◌, ◌⊎◌, IfOk, false, is_some, map, not, take, true};
 ghost use Rattle.tn_rows.specs.Cuts.{IsCut, IsOver};
 ghost use Rattle.tn_rows.specs.Ends.{final_after, last_of};
 ghost use Rattle.tn_rows.specs.Events.{IsWorld, Rests};
 ghost use Rattle.tn_rows.specs.Runs.{Run};
 ghost use Rattle.tn_rows.specs.Stamped.{journals_of, machine, presents_of, starts_of};
-ghost use Rattle.tn_settle.specs.Settles.{CanHappen, IsHistory, some_ended};
+ghost use Rattle.tn_settle.specs.Settles.{CanHappen, EndsByLast, IsHistory, IsLastFinal, some_ended};
 ghost use Rattle.tn_stamp.specs.Merging.{ArePaired, IsMerge};
 ghost use Rattle.tn_stamp.specs.Merging.{entries_of as journals_in};
 ghost use Rattle.tn_stamped.specs.Placed.{AreAt, entries_of, stamped_of};
 
 use std::alloc::{AllocError, Global};
-use tn_base::event::Event;
+use tn_base::event::{Event, Outcome};
 use tn_base::laws::law_links;
 use tn_base::shape::Shape;
 use tn_link::link::Link;
@@ -55,9 +55,23 @@ pub fn settle<L: Link>(
 {
     law_links(&shape);
     law_placed_merge(&shape, &parts);
-    let Apart { starts, journals } = take_apart(alloc, parts)?;
+    let has_ended = some_ended(&parts);
+    let by_last = ends_by_last(&parts);
+    let Apart {
+        starts,
+        journals,
+        presents,
+    } = take_apart(alloc, parts)?;
     let mut history = merge(alloc, &journals)?;
     let start = World::of(shape, starts)?;
+    let end = World::of(shape, presents)?;
+    if is_whole(has_ended, by_last, &end, &history) {
+        return Ok(Settled {
+            start,
+            end,
+            history,
+        });
+    }
     let mut end = start.copy()?;
     let count = replay(alloc, &mut end, &history)?;
     history.truncate(count);
@@ -68,26 +82,80 @@ pub fn settle<L: Link>(
     })
 }
 
-/// Where parts began, and their journals.
+/// Whether a journal has a final event.
+fn some_ended<L: Link>(parts: &[Placed<L>]) -> bool
+    ensures { result ≡ some_ended (stamped_of parts.now) }
+{
+    parts.iter().any(|part| part.stamped().ended())
+}
+
+/// Whether the first final event of a part's journal, if there is one, is the journal's last event.
+fn is_last_final<L: Link>(part: &Placed<L>) -> bool
+    ensures { result ≡ true → IsLastFinal part.now.stamped }
+{
+    match part.stamped().first_final() {
+        Some(stamp) => part.stamped().journal().last() == stamp,
+        None => true,
+    }
+}
+
+/// Whether at most one part has ended, and by the last event of its journal.
+fn ends_by_last<L: Link>(parts: &[Placed<L>]) -> bool
+    ensures { result ≡ true → EndsByLast (stamped_of parts.now) }
+{
+    let ended = parts
+        .iter()
+        .filter(|part| part.stamped().ended())
+        .count();
+    ended <= 1 && parts.iter().all(is_last_final)
+}
+
+/// How a run ended with its last event, after which the machine is this one, if that event is final.
+pub fn final_after<L: Link>(world: &World<L>, history: &[Event]) -> Option<Outcome>
+    ensures { result ≡ final_after (last_of history.now) world.now }
+{
+    final_of(world, history.last()?)
+}
+
+/// Whether a merge that ends with this machine needs no cut: no part has ended, or one with the merge's last event.
+fn is_whole<L: Link>(has_ended: bool, by_last: bool, end: &World<L>, history: &[Event]) -> bool
+    ensures { result ≡ (not has_ended || (by_last && is_some (final_after (last_of history.now) end.now))) }
+{
+    !has_ended || by_last && final_after(end, history).is_some()
+}
+
+/// Where parts began, their journals, and where they are.
 #[derive(Drop)]
 struct Apart<L: Link> {
     starts: Vec<Part<L>>,
     journals: Vec<Journal>,
+    presents: Vec<Part<L>>,
 }
 
-/// The starts and the journals of parts.
+/// The starts, the journals and the presents of parts.
 fn take_apart<L: Link>(alloc: Global, parts: Vec<Placed<L>>) -> Result<Apart<L>, AllocError>
     ensures starts { IfOk result (λ r. r.starts.items ≡ starts_of (stamped_of parts.items)) }
     ensures journals { IfOk result (λ r. journals_in r.journals.items ≡ journals_of (stamped_of parts.items)) }
+    ensures presents { IfOk result (λ r. r.presents.items ≡ presents_of (stamped_of parts.items)) }
 {
     let mut starts = Vec::with_capacity(alloc, parts.len())?;
     let mut journals = Vec::with_capacity(alloc, parts.len())?;
+    let mut presents = Vec::with_capacity(alloc, parts.len())?;
     for part in parts {
-        let Pieces { start, journal, .. } = part.into_stamped().into_pieces();
+        let Pieces {
+            start,
+            journal,
+            present,
+        } = part.into_stamped().into_pieces();
         starts.push(start)?;
         journals.push(journal)?;
+        presents.push(present)?;
     }
-    Ok(Apart { starts, journals })
+    Ok(Apart {
+        starts,
+        journals,
+        presents,
+    })
 }
 
 /// Makes these events on a machine, up to the first final one. The answer says how many events it made.
