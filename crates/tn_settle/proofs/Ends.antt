@@ -202,7 +202,7 @@ module _ (n : ShapeNumbers) (parts : List StampedView) (link : Behind n) (stampe
           subst (λ es. CalmAt es (at i xs)) (sym (of_first (part_count n) i x ys false on)) more
 
   -- and if no part ends along some entries, no event of their walk is final, whatever follows
-  quiet_of : (xs ys zs : List Placed) (mid : WorldView) → IsMergeOf (journals_of parts) (xs ++ ys ++ zs) → Walk (machine n (starts_of parts)) (events_of xs) mid → Calm xs ys → Quiet mid (events_of ys)
+  quiet_of : (xs ys zs : List Placed) (mid : WorldView) → IsMergeOf (journals_of parts) (xs ++ (ys ++ zs)) → Walk (machine n (starts_of parts)) (events_of xs) mid → Calm xs ys → Quiet mid (events_of ys)
   quiet_of xs [] zs mid merge walk calm = tt
   quiet_of xs (x ∷ ys) zs mid merge walk calm = λ end step.
       let f = front xs x (ys ++ zs) mid end merge walk step in

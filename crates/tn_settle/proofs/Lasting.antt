@@ -1,17 +1,16 @@
 -- A merge of which no event but the last can be final.
-use Rattle.std.proofs.Common.{◌≡◌, ◌≢◌, ◌∙◌, ◌⊎◌, inl, inr, ◌++◌, ◌∷◌, [], ℕ, ◌<◌, ◌≤◌, zero, suc, Bool, true, false, cond, List, length, filter, None, Some, refl, sym, ap, subst, is_some, option_and_then, arith}
+use Rattle.std.proofs.Common.{◌≡◌, ◌∙◌, ◌++◌, ◌∷◌, [], ℕ, ◌<◌, ◌≤◌, zero, suc, Bool, true, false, cond, List, length, filter, None, Some, refl, ap, is_some, option_and_then, arith}
 use Rattle.std.specs.declared.option.Option.{Option}
-use Rattle.std.specs.List.{All, slice_get}
-use Rattle.std.proofs.lemmas.List.Elements.{All-head, All-tail}
+use Rattle.std.specs.List.{slice_get}
 use Rattle.tn_base.specs.declared.event.Event.{Event}
 use Rattle.tn_base.specs.declared.event.Outcome.{Outcome}
 use Rattle.tn_stamp.specs.declared.entry.Entry.{Entry}
 use Rattle.tn_stamp.specs.Journals.{Rises, last_stamp}
-use Rattle.tn_rows.specs.Ends.{final_of, final_on}
+use Rattle.tn_rows.specs.Ends.{final_on}
 use Rattle.tn_rows.specs.Events.{after, replay}
 use Rattle.tn_rows.specs.PartView.{PartView}
 use Rattle.tn_rows.specs.Runs.{Run, Walk}
-use Rattle.tn_rows.specs.Stamped.{IsStamped, StampedView, first_by, first_final}
+use Rattle.tn_rows.specs.Stamped.{StampedView, first_by, first_final}
 use Rattle.tn_rows.specs.WorldView.{WorldView}
 use Rattle.tn_settle.proofs.Along.{after_all}
 use Rattle.tn_settle.proofs.Quiet.{Quiet}
@@ -40,43 +39,36 @@ first_of_by : (o : Option Outcome) (stamp : ℕ) (a b : Option ℕ) → (b ≡ N
 first_of_by None stamp a b h is = h is
 first_of_by (Some x) stamp a b h is = is
 
-pub calm_front : (as bs : List Entry) (v : PartView) → first_final (as ++ bs) v ≡ None → first_final as v ≡ None
-calm_front [] bs v is = refl
-calm_front (e ∷ as) bs v is = by (after e.event e.crossing v) is
+pub calm_front : (fs gs : List Entry) (v : PartView) → first_final (fs ++ gs) v ≡ None → first_final fs v ≡ None
+calm_front [] gs v is = refl
+calm_front (e ∷ fs) gs v is = by (after e.event e.crossing v) (calm_front fs gs) is
   where
-    by : (o : Option PartView) → option_and_then (λ next. first_by (final_on e.event next) e.stamp (first_final (as ++ bs) next)) o ≡ None → option_and_then (λ next. first_by (final_on e.event next) e.stamp (first_final as next)) o ≡ None
-    by None is = refl
-    by (Some next) is = first_of_by (final_on e.event next) e.stamp (first_final as next) (first_final (as ++ bs) next) (calm_front as bs next) is
+    by : (o : Option PartView) → ((next : PartView) → first_final (fs ++ gs) next ≡ None → first_final fs next ≡ None) → option_and_then (λ next. first_by (final_on e.event next) e.stamp (first_final (fs ++ gs) next)) o ≡ None → option_and_then (λ next. first_by (final_on e.event next) e.stamp (first_final fs next)) o ≡ None
+    by None more is = refl
+    by (Some next) more is = first_of_by (final_on e.event next) e.stamp (first_final fs next) (first_final (fs ++ gs) next) (more next) is
 
-last_above : (low : ℕ) (es : List Entry) → Rises low es → low ≤ last_stamp low es
-last_above low [] rises = arith
-last_above low (e ∷ es) rises = let more = last_above e.stamp es rises.1 in let less = rises.0 in omega arith
-
-last_later : (low : ℕ) (as : List Entry) (e : Entry) → Rises low (as ++ e ∷ []) → low < last_stamp low (as ++ e ∷ [])
+last_later : (low : ℕ) (fs : List Entry) (e : Entry) → Rises low (fs ++ e ∷ []) → low < last_stamp low (fs ++ e ∷ [])
 last_later low [] e rises = rises.0
-last_later low (a ∷ as) e rises = let more = last_later a.stamp as e rises.1 in let less = rises.0 in omega arith
+last_later low (a ∷ fs) e rises = let more = last_later a.stamp fs e rises.1 in let less = rises.0 in omega arith
 
 -- if a journal's last entry is its first final one, no entry before it is final
-pub calm_before : (low : ℕ) (as : List Entry) (e : Entry) (v : PartView) → Rises low (as ++ e ∷ []) → first_final (as ++ e ∷ []) v ≡ Some (last_stamp low (as ++ e ∷ [])) → first_final as v ≡ None
+pub calm_before : (low : ℕ) (fs : List Entry) (e : Entry) (v : PartView) → Rises low (fs ++ e ∷ []) → first_final (fs ++ e ∷ []) v ≡ Some (last_stamp low (fs ++ e ∷ [])) → first_final fs v ≡ None
 calm_before low [] e v rises is = refl
-calm_before low (a ∷ as) e v rises is = by (after a.event a.crossing v) is
+calm_before low (a ∷ fs) e v rises is = by (after a.event a.crossing v) (λ next. calm_before a.stamp fs e next rises.1) (last_later a.stamp fs e rises.1) is
   where
-    late : a.stamp < last_stamp a.stamp (as ++ e ∷ [])
-    late = last_later a.stamp as e rises.1
+    here : (o : Option Outcome) (next : PartView) → (first_final (fs ++ e ∷ []) next ≡ Some (last_stamp a.stamp (fs ++ e ∷ [])) → first_final fs next ≡ None) → a.stamp < last_stamp a.stamp (fs ++ e ∷ []) → first_by o a.stamp (first_final (fs ++ e ∷ []) next) ≡ Some (last_stamp a.stamp (fs ++ e ∷ [])) → first_by o a.stamp (first_final fs next) ≡ None
+    here None next more late is = more is
+    here (Some x) next more late is = let same : a.stamp ≡ last_stamp a.stamp (fs ++ e ∷ []) = cc is in absurd (omega (arith, same, late))
 
-    here : (o : Option Outcome) (next : PartView) → first_by o a.stamp (first_final (as ++ e ∷ []) next) ≡ Some (last_stamp a.stamp (as ++ e ∷ [])) → first_by o a.stamp (first_final as next) ≡ None
-    here None next is = calm_before a.stamp as e next rises.1 is
-    here (Some x) next is = let same : a.stamp ≡ last_stamp a.stamp (as ++ e ∷ []) = cc is in let l = late in absurd (omega (arith, same, l))
-
-    by : (o : Option PartView) → option_and_then (λ next. first_by (final_on a.event next) a.stamp (first_final (as ++ e ∷ []) next)) o ≡ Some (last_stamp a.stamp (as ++ e ∷ [])) → option_and_then (λ next. first_by (final_on a.event next) a.stamp (first_final as next)) o ≡ None
-    by None is = refl
-    by (Some next) is = here (final_on a.event next) next is
+    by : (o : Option PartView) → ((next : PartView) → first_final (fs ++ e ∷ []) next ≡ Some (last_stamp a.stamp (fs ++ e ∷ [])) → first_final fs next ≡ None) → a.stamp < last_stamp a.stamp (fs ++ e ∷ []) → option_and_then (λ next. first_by (final_on a.event next) a.stamp (first_final (fs ++ e ∷ []) next)) o ≡ Some (last_stamp a.stamp (fs ++ e ∷ [])) → option_and_then (λ next. first_by (final_on a.event next) a.stamp (first_final fs next)) o ≡ None
+    by None more late is = refl
+    by (Some next) more late is = here (final_on a.event next) next (more next) late is
 
 -- ---- at most one part has ended
 
 longer : (b : Bool) (s : StampedView) (ps : List StampedView) → length ps ≤ length (cond b (s ∷ ps) ps)
-longer true s ps = arith
-longer false s ps = arith
+longer true s ps = omega arith
+longer false s ps = omega arith
 
 none_there : (parts : List StampedView) (i : ℕ) (s : StampedView) → length (filter has_ended parts) < 1 → slice_get parts i ≡ Some s → has_ended s ≡ true → ⊥
 none_there [] i s few at ended = cc at
@@ -106,7 +98,7 @@ one_there (p ∷ parts) (suc i) (suc j) s t few at there a b =
 
 -- ---- a part whose journal ends with a final event has ended
 
-pub ended_there : (as : List Entry) (e : Entry) (v : PartView) (o : Outcome) → option_and_then (final_on e.event) (after_all (e ∷ []) (replay as v)) ≡ Some o → is_some (first_final (as ++ e ∷ []) v) ≡ true
+pub ended_there : (fs : List Entry) (e : Entry) (v : PartView) (o : Outcome) → option_and_then (final_on e.event) (after_all (e ∷ []) (replay fs v)) ≡ Some o → is_some (first_final (fs ++ e ∷ []) v) ≡ true
 ended_there [] e v o final = by (after e.event e.crossing v) final
   where
     found : (x : Option Outcome) → x ≡ Some o → is_some (first_by x e.stamp None) ≡ true
@@ -116,12 +108,12 @@ ended_there [] e v o final = by (after e.event e.crossing v) final
     by : (p : Option PartView) → option_and_then (final_on e.event) (option_and_then (replay []) p) ≡ Some o → is_some (option_and_then (λ next. first_by (final_on e.event next) e.stamp None) p) ≡ true
     by None final = cc final
     by (Some next) final = found (final_on e.event next) final
-ended_there (a ∷ as) e v o final = by (after a.event a.crossing v) final
+ended_there (a ∷ fs) e v o final = by (after a.event a.crossing v) (λ next. ended_there fs e next o) final
   where
-    passed : (x : Option Outcome) (next : PartView) → option_and_then (final_on e.event) (after_all (e ∷ []) (replay as next)) ≡ Some o → is_some (first_by x a.stamp (first_final (as ++ e ∷ []) next)) ≡ true
-    passed None next final = ended_there as e next o final
-    passed (Some y) next final = refl
+    passed : (x : Option Outcome) (next : PartView) → (option_and_then (final_on e.event) (after_all (e ∷ []) (replay fs next)) ≡ Some o → is_some (first_final (fs ++ e ∷ []) next) ≡ true) → option_and_then (final_on e.event) (after_all (e ∷ []) (replay fs next)) ≡ Some o → is_some (first_by x a.stamp (first_final (fs ++ e ∷ []) next)) ≡ true
+    passed None next more final = more final
+    passed (Some y) next more final = refl
 
-    by : (p : Option PartView) → option_and_then (final_on e.event) (after_all (e ∷ []) (option_and_then (replay as) p)) ≡ Some o → is_some (option_and_then (λ next. first_by (final_on a.event next) a.stamp (first_final (as ++ e ∷ []) next)) p) ≡ true
-    by None final = cc final
-    by (Some next) final = passed (final_on a.event next) next final
+    by : (p : Option PartView) → ((next : PartView) → option_and_then (final_on e.event) (after_all (e ∷ []) (replay fs next)) ≡ Some o → is_some (first_final (fs ++ e ∷ []) next) ≡ true) → option_and_then (final_on e.event) (after_all (e ∷ []) (option_and_then (replay fs) p)) ≡ Some o → is_some (option_and_then (λ next. first_by (final_on a.event next) a.stamp (first_final (fs ++ e ∷ []) next)) p) ≡ true
+    by None more final = cc final
+    by (Some next) more final = passed (final_on a.event next) next (more next) final

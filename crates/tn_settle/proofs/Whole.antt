@@ -1,14 +1,14 @@
 -- A merge that needs no cut.
-use Rattle.std.proofs.Common.{◌≡◌, ◌∙◌, ◌⊎◌, inl, inr, ◌++◌, ◌∷◌, [], ℕ, zero, suc, Bool, true, false, cond, List, None, Some, refl, sym, ap, subst, is_some, option_and_then}
+use Rattle.std.proofs.Common.{◌≡◌, ◌∙◌, inr, ◌++◌, ◌∷◌, [], ℕ, zero, suc, Bool, true, false, cond, List, None, Some, refl, sym, ap, subst, is_some, option_and_then, ◌&&◌}
 use Rattle.std.specs.declared.option.Option.{Option}
-use Rattle.std.specs.List.{All, slice_get}
+use Rattle.std.specs.List.{All, list_all, slice_get}
+use Rattle.std.proofs.lemmas.Bool.{eqb-true}
 use Rattle.std.proofs.lemmas.List.{append-nil, map-append}
 use Rattle.std.proofs.lemmas.List.Elements.{All-head, All-tail}
 use Rattle.tn_base.specs.declared.event.Event.{Event}
 use Rattle.tn_base.specs.declared.event.Outcome.{Outcome}
 use Rattle.tn_base.specs.declared.shape.ShapeNumbers.{ShapeNumbers}
 use Rattle.tn_base.specs.Parts.{part_count}
-use Rattle.tn_stamp.specs.declared.entry.Entry.{Entry}
 use Rattle.tn_stamp.specs.Journals.{Rises, last_stamp}
 use Rattle.tn_stamp.specs.Merging.{IsMerge, IsMergeOf, Placed, entries_at, events_of, is_on, of_part}
 use Rattle.tn_stamp.specs.Pairs.{pair_of}
@@ -26,7 +26,7 @@ use Rattle.tn_settle.proofs.Along.{after_all, count_is}
 use Rattle.tn_settle.proofs.Ends.{CalmAt, front, front_quiet, merge_quiet, none_calm, of_one, on_own, tells}
 use Rattle.tn_settle.proofs.Lasting.{calm_before, calm_front, ended_there, one_there, run_by_last, run_quiet}
 use Rattle.tn_settle.proofs.Quiet.{Quiet}
-use Rattle.tn_settle.specs.Settles.{EndsByLast, IsLastFinal, has_ended, some_ended}
+use Rattle.tn_settle.specs.Settles.{EndsByLast, has_ended, is_at_last, is_last_final, some_ended}
 
 whole_run : (start : WorldView) (whole : List Event) (end : WorldView) → Run start whole end → IsCut start whole whole end
 whole_run start whole end run = record { rest = []; begins = append-nil whole; run = run; ends = inr refl }
@@ -63,18 +63,25 @@ pub record There (parts : List StampedView) (i : ℕ) (v : PartView) : Type 0 wh
   pub start : part.start ≡ v
   pub entries : entries_at (journals_of parts) i ≡ part.entries
   pub stamped : All IsStamped parts → IsStamped part
-  pub last : All IsLastFinal parts → IsLastFinal part
+  pub last : list_all is_last_final parts ≡ true → is_last_final part ≡ true
+
+both_true : (a b : Bool) → (a && b) ≡ true → (a ≡ true) × (b ≡ true)
+both_true true b is = (refl, is)
+both_true false b is = cc is
 
 there : (parts : List StampedView) (i : ℕ) (v : PartView) → slice_get (starts_of parts) i ≡ Some v → There parts i v
 there [] i v is = cc is
-there (s ∷ parts) zero v is = record { part = s; at = refl; start = cc is; entries = refl; stamped = λ all. All-head IsStamped s parts all; last = λ all. All-head IsLastFinal s parts all }
+there (s ∷ parts) zero v is = record { part = s; at = refl; start = cc is; entries = refl; stamped = λ all. All-head IsStamped s parts all; last = λ all. (both_true (is_last_final s) (list_all is_last_final parts) all).0 }
 there (s ∷ parts) (suc i) v is =
     let t = there parts i v is in
-    record { part = t.part; at = t.at; start = t.start; entries = t.entries; stamped = λ all. t.stamped (All-tail IsStamped s parts all); last = λ all. t.last (All-tail IsLastFinal s parts all) }
+    record { part = t.part; at = t.at; start = t.start; entries = t.entries; stamped = λ all. t.stamped (All-tail IsStamped s parts all); last = λ all. t.last (both_true (is_last_final s) (list_all is_last_final parts) all).1 }
 
 none_of : (o : Option ℕ) → is_some o ≡ false → o ≡ None
 none_of None is = refl
 none_of (Some x) is = cc is
+
+at_last : (last stamp : ℕ) → is_at_last last (Some stamp) ≡ true → last ≡ stamp
+at_last last stamp is = eqb-true last stamp is
 
 some_of : (o : Option ℕ) → is_some o ≡ true → (x : ℕ) × (o ≡ Some x)
 some_of None is = cc is
@@ -132,23 +139,23 @@ module _ (n : ShapeNumbers) (parts : List StampedView) (link : Behind n) (stampe
         subst (λ u. first_final (of_part m i xs) u ≡ None) t.start (by t (has_ended t.part) refl)
       where
         on_last : (t : There parts i v) → has_ended t.part ≡ true → is_on (pair_of m x.entry.event) x.part i ≡ true
-        on_last t yes =
+        on_last t on =
             let q = own_there in
             let u = there parts x.part q.0 q.1 in
             let entries : u.part.entries ≡ of_part m x.part xs ++ x.entry ∷ [] = sym u.entries ∙ journal x.part true own in
             let over : has_ended u.part ≡ true = ap (λ es. is_some (first_final es u.part.start)) entries ∙ ap (λ w. is_some (first_final (of_part m x.part xs ++ x.entry ∷ []) w)) u.start ∙ ended q.0 q.1 in
-            let same : x.part ≡ i = one_there parts x.part i u.part t.part ends.few u.at t.at over yes in
+            let same : x.part ≡ i = one_there parts x.part i u.part t.part ends.few u.at t.at over on in
             subst (λ k. is_on (pair_of m x.entry.event) x.part k ≡ true) same own
 
         by : (t : There parts i v) (b : Bool) → has_ended t.part ≡ b → first_final (of_part m i xs) t.part.start ≡ None
-        by t false no =
+        by t false off =
             let on = is_on (pair_of m x.entry.event) x.part i in
             let entries : t.part.entries ≡ of_part m i xs ++ cond on (x.entry ∷ []) [] = sym t.entries ∙ journal i on refl in
-            calm_front (of_part m i xs) (cond on (x.entry ∷ []) []) t.part.start (subst (λ es. first_final es t.part.start ≡ None) entries (none_of (first_final t.part.entries t.part.start) no))
-        by t true yes =
-            let entries : t.part.entries ≡ of_part m i xs ++ x.entry ∷ [] = sym t.entries ∙ journal i true (on_last t yes) in
-            let stamp = some_of (first_final t.part.entries t.part.start) yes in
-            let last : last_stamp 0 t.part.entries ≡ stamp.0 = t.last ends.last stamp.0 stamp.1 in
+            calm_front (of_part m i xs) (cond on (x.entry ∷ []) []) t.part.start (subst (λ es. first_final es t.part.start ≡ None) entries (none_of (first_final t.part.entries t.part.start) off))
+        by t true on =
+            let entries : t.part.entries ≡ of_part m i xs ++ x.entry ∷ [] = sym t.entries ∙ journal i true (on_last t on) in
+            let stamp = some_of (first_final t.part.entries t.part.start) on in
+            let last : last_stamp 0 t.part.entries ≡ stamp.0 = at_last (last_stamp 0 t.part.entries) stamp.0 (subst (λ f. is_at_last (last_stamp 0 t.part.entries) f ≡ true) stamp.1 (t.last ends.last)) in
             let is : first_final t.part.entries t.part.start ≡ Some (last_stamp 0 t.part.entries) = stamp.1 ∙ ap (λ k. Some k) (sym last) in
             calm_before 0 (of_part m i xs) x.entry t.part.start (subst (Rises 0) entries (t.stamped stamped).rises) (subst (λ es. first_final es t.part.start ≡ Some (last_stamp 0 es)) entries is)
 

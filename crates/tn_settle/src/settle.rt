@@ -1,12 +1,13 @@
 //! The run that placed parts made.
 
-ghost use Rattle.std.specs.Prelude.{◌≡◌, ◌||◌, ◌&&◌, ◌⊎◌, IfOk, false, is_some, map, not, take, true};
+ghost use Rattle.std.specs.Prelude.{◌≡◌, ◌==◌, ◌||◌, ◌&&◌, ◌⊎◌, IfOk, false, filter, is_some, length, map, take, true};
+ghost use Rattle.std.specs.List.{list_all};
 ghost use Rattle.tn_rows.specs.Cuts.{IsCut, IsOver};
 ghost use Rattle.tn_rows.specs.Ends.{final_after, last_of};
 ghost use Rattle.tn_rows.specs.Events.{IsWorld, Rests};
 ghost use Rattle.tn_rows.specs.Runs.{Run};
 ghost use Rattle.tn_rows.specs.Stamped.{journals_of, machine, presents_of, starts_of};
-ghost use Rattle.tn_settle.specs.Settles.{CanHappen, EndsByLast, IsHistory, IsLastFinal, some_ended};
+ghost use Rattle.tn_settle.specs.Settles.{CanHappen, IsHistory, ended_here, last_here, some_ended};
 ghost use Rattle.tn_stamp.specs.Merging.{ArePaired, IsMerge};
 ghost use Rattle.tn_stamp.specs.Merging.{entries_of as journals_in};
 ghost use Rattle.tn_stamped.specs.Placed.{AreAt, entries_of, stamped_of};
@@ -55,8 +56,8 @@ pub fn settle<L: Link>(
 {
     law_links(&shape);
     law_placed_merge(&shape, &parts);
-    let has_ended = some_ended(&parts);
-    let by_last = ends_by_last(&parts);
+    let ended = ended_count(&parts);
+    let last = all_end_last(&parts);
     let Apart {
         starts,
         journals,
@@ -65,7 +66,7 @@ pub fn settle<L: Link>(
     let mut history = merge(alloc, &journals)?;
     let start = World::of(shape, starts)?;
     let end = World::of(shape, presents)?;
-    if is_whole(has_ended, by_last, &end, &history) {
+    if is_whole(ended, last, &end, &history) {
         return Ok(Settled {
             start,
             end,
@@ -82,16 +83,16 @@ pub fn settle<L: Link>(
     })
 }
 
-/// Whether a journal has a final event.
-fn some_ended<L: Link>(parts: &[Placed<L>]) -> bool
-    ensures { result ≡ some_ended (stamped_of parts.now) }
+/// How many journals have a final event.
+fn ended_count<L: Link>(parts: &[Placed<L>]) -> usize
+    ensures { result ≡ length (filter ended_here parts.now) }
 {
-    parts.iter().any(|part| part.stamped().ended())
+    parts.iter().filter(|part| part.stamped().ended()).count()
 }
 
 /// Whether the first final event of a part's journal, if there is one, is the journal's last event.
 fn is_last_final<L: Link>(part: &Placed<L>) -> bool
-    ensures { result ≡ true → IsLastFinal part.now.stamped }
+    ensures { result ≡ last_here part.now }
 {
     match part.stamped().first_final() {
         Some(stamp) => part.stamped().journal().last() == stamp,
@@ -99,15 +100,11 @@ fn is_last_final<L: Link>(part: &Placed<L>) -> bool
     }
 }
 
-/// Whether at most one part has ended, and by the last event of its journal.
-fn ends_by_last<L: Link>(parts: &[Placed<L>]) -> bool
-    ensures { result ≡ true → EndsByLast (stamped_of parts.now) }
+/// Whether no journal has an event behind its first final one.
+fn all_end_last<L: Link>(parts: &[Placed<L>]) -> bool
+    ensures { result ≡ list_all last_here parts.now }
 {
-    let ended = parts
-        .iter()
-        .filter(|part| part.stamped().ended())
-        .count();
-    ended <= 1 && parts.iter().all(is_last_final)
+    parts.iter().all(is_last_final)
 }
 
 /// How a run ended with its last event, after which the machine is this one, if that event is final.
@@ -117,11 +114,12 @@ pub fn final_after<L: Link>(world: &World<L>, history: &[Event]) -> Option<Outco
     final_of(world, history.last()?)
 }
 
-/// Whether a merge that ends with this machine needs no cut: no part has ended, or one with the merge's last event.
-fn is_whole<L: Link>(has_ended: bool, by_last: bool, end: &World<L>, history: &[Event]) -> bool
-    ensures { result ≡ (not has_ended || (by_last && is_some (final_after (last_of history.now) end.now))) }
+/// Whether the merge of journals is a run as it is: no journal has a final event, or one has, and that event is its last event and the
+/// merge's.
+fn is_whole<L: Link>(ended: usize, last: bool, end: &World<L>, history: &[Event]) -> bool
+    ensures { result ≡ (ended == 0 || (ended == 1 && (last && is_some (final_after (last_of history.now) end.now)))) }
 {
-    !has_ended || by_last && final_after(end, history).is_some()
+    ended == 0 || (ended == 1 && (last && final_after(end, history).is_some()))
 }
 
 /// Where parts began, their journals, and where they are.
