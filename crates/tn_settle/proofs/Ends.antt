@@ -4,7 +4,7 @@ use Rattle.std.specs.declared.option.Option.{Option}
 use Rattle.std.specs.List.{All, slice_get}
 use Rattle.std.proofs.lemmas.Bool.{eqb-true}
 use Rattle.std.proofs.lemmas.Bool.Decides.{nat_tests}
-use Rattle.std.proofs.lemmas.List.{append_assoc, map-append}
+use Rattle.std.proofs.lemmas.List.{append-nil, append_assoc, map-append}
 use Rattle.std.proofs.lemmas.List.Elements.{All-head, All-tail}
 use Rattle.tn_base.specs.declared.event.Event.{Event}
 use Rattle.tn_base.specs.declared.event.Event.TheVariants as event
@@ -62,7 +62,7 @@ ends_at n (event.Go p) i ps at = no_end (slice_get ps i)
 
 -- ---- what a list has of a part, entry by entry
 
-of_one : (m i : ℕ) (x : Placed) (b : Bool) → is_on (pair_of m x.entry.event) x.part i ≡ b → of_part m i (x ∷ []) ≡ cond b (x.entry ∷ []) []
+pub of_one : (m i : ℕ) (x : Placed) (b : Bool) → is_on (pair_of m x.entry.event) x.part i ≡ b → of_part m i (x ∷ []) ≡ cond b (x.entry ∷ []) []
 of_one m i x b e = subst (λ c. map (λ (y : Placed). y.entry) (cond c (x ∷ []) []) ≡ cond b (x.entry ∷ []) []) (sym e) (by b)
   where
     by : (b : Bool) → map (λ (y : Placed). y.entry) (cond b (x ∷ []) []) ≡ cond b (x.entry ∷ []) []
@@ -136,7 +136,7 @@ among [] ys y = inl refl
 among (x ∷ xs) ys y = inr (among xs ys y)
 
 -- what is known in front of an entry of the merge
-record Front (n : ShapeNumbers) (parts : List StampedView) (xs : List Placed) (x : Placed) (ys : List Placed) (mid : WorldView) : Type 0 where
+pub record Front (n : ShapeNumbers) (parts : List StampedView) (xs : List Placed) (x : Placed) (ys : List Placed) (mid : WorldView) : Type 0 where
   merge : IsMergeOf (journals_of parts) ((xs ++ x ∷ []) ++ ys)
   walk : Walk (machine n (starts_of parts)) (events_of (xs ++ x ∷ [])) mid
   behind : IsAfter n parts (xs ++ x ∷ []) mid
@@ -150,7 +150,7 @@ module _ (n : ShapeNumbers) (parts : List StampedView) (link : Behind n) (stampe
   abbrev Calm : List Placed → List Placed → Type 0
   Calm xs ys = (i : ℕ) → CalmAt (of_part (part_count n) i ys) (at i xs)
 
-  front : (xs : List Placed) (x : Placed) (ys : List Placed) (mid end : WorldView) → IsMergeOf (journals_of parts) (xs ++ x ∷ ys) → Walk (machine n (starts_of parts)) (events_of xs) mid → happened x.entry.event mid ≡ Some end → Front n parts xs x ys end
+  pub front : (xs : List Placed) (x : Placed) (ys : List Placed) (mid end : WorldView) → IsMergeOf (journals_of parts) (xs ++ x ∷ ys) → Walk (machine n (starts_of parts)) (events_of xs) mid → happened x.entry.event mid ≡ Some end → Front n parts xs x ys end
   front xs x ys mid end merge walk step =
       let longer : IsMergeOf (journals_of parts) ((xs ++ x ∷ []) ++ ys) = subst (IsMergeOf (journals_of parts)) (sym (append_assoc xs (x ∷ []) ys)) merge in
       let walks : Walk (machine n (starts_of parts)) (events_of (xs ++ x ∷ [])) end = subst (λ es. Walk (machine n (starts_of parts)) es end) (sym (map-append (λ (y : Placed). y.entry.event) xs (x ∷ []))) (walk_more (machine n (starts_of parts)) (events_of xs) mid end x.entry.event walk step) in
@@ -170,11 +170,18 @@ module _ (n : ShapeNumbers) (parts : List StampedView) (link : Behind n) (stampe
   moved_by i xs x b on = ap (λ es. after_all es (slice_get (starts_of parts) i)) (of_last (part_count n) i xs x b on) ∙ after_append (of_part (part_count n) i xs) (cond b (x.entry ∷ []) []) (slice_get (starts_of parts) i)
 
   -- the event of an entry on part i is final exactly where part i says so
-  tells : (i : ℕ) (xs : List Placed) (x : Placed) (ys : List Placed) (mid end : WorldView) → IsMergeOf (journals_of parts) (xs ++ x ∷ ys) → Front n parts xs x ys end → is_on (pair_of (part_count n) x.entry.event) x.part i ≡ true → final_of x.entry.event end ≡ option_and_then (final_on x.entry.event) (after_all (x.entry ∷ []) (at i xs))
+  pub tells : (i : ℕ) (xs : List Placed) (x : Placed) (ys : List Placed) (mid end : WorldView) → IsMergeOf (journals_of parts) (xs ++ x ∷ ys) → Front n parts xs x ys end → is_on (pair_of (part_count n) x.entry.event) x.part i ≡ true → final_of x.entry.event end ≡ option_and_then (final_on x.entry.event) (after_all (x.entry ∷ []) (at i xs))
   tells i xs x ys mid end merge f on =
       let b = f.behind in
       ap (final_of x.entry.event) b.is ∙ ends_at n x.entry.event i b.now (stands i xs x ys merge on)
       ∙ ap (option_and_then (final_on x.entry.event)) (b.each i ∙ moved_by i xs x true on)
+
+  -- an entry of the merge is on its least part
+  pub on_own : (xs : List Placed) (x : Placed) (ys : List Placed) → IsMergeOf (journals_of parts) (xs ++ x ∷ ys) → is_on (pair_of (part_count n) x.entry.event) x.part x.part ≡ true
+  on_own xs x ys merge =
+      let k = length (journals_of parts) in
+      let least : is_least (pair_of k x.entry.event) x.part ≡ true = from_all (λ (y : Placed). is_least (pair_of k y.entry.event) y.part ≡ true) (xs ++ x ∷ ys) x merge.least (among xs ys x) in
+      subst (λ c. is_on (pair_of c x.entry.event) x.part x.part ≡ true) (count_is n parts are) (on_least (pair_of k x.entry.event) x.part least)
 
   -- if no event of the walk is final, no part ends
   calm_of : (xs ys : List Placed) (mid end : WorldView) → IsMergeOf (journals_of parts) (xs ++ ys) → Walk (machine n (starts_of parts)) (events_of xs) mid → Walk mid (events_of ys) end → Quiet mid (events_of ys) → Calm xs ys
@@ -194,22 +201,18 @@ module _ (n : ShapeNumbers) (parts : List StampedView) (link : Behind n) (stampe
           let more = subst (CalmAt (of_part (part_count n) i ys)) (moved_by i xs x false on ∙ after_nothing (at i xs)) later in
           subst (λ es. CalmAt es (at i xs)) (sym (of_first (part_count n) i x ys false on)) more
 
-  -- and if no part ends, no event of the walk is final
-  quiet_of : (xs ys : List Placed) (mid : WorldView) → IsMergeOf (journals_of parts) (xs ++ ys) → Walk (machine n (starts_of parts)) (events_of xs) mid → Calm xs ys → Quiet mid (events_of ys)
-  quiet_of xs [] mid merge walk calm = tt
-  quiet_of xs (x ∷ ys) mid merge walk calm = λ end step.
-      let f = front xs x ys mid end merge walk step in
-      (here end f, quiet_of (xs ++ x ∷ []) ys end f.merge f.walk (λ i. by i (is_on (pair_of (part_count n) x.entry.event) x.part i) refl))
+  -- and if no part ends along some entries, no event of their walk is final, whatever follows
+  quiet_of : (xs ys zs : List Placed) (mid : WorldView) → IsMergeOf (journals_of parts) (xs ++ (ys ++ zs)) → Walk (machine n (starts_of parts)) (events_of xs) mid → Calm xs ys → Quiet mid (events_of ys)
+  quiet_of xs [] zs mid merge walk calm = tt
+  quiet_of xs (x ∷ ys) zs mid merge walk calm = λ end step.
+      let f = front xs x (ys ++ zs) mid end merge walk step in
+      (here end f, quiet_of (xs ++ x ∷ []) ys zs end f.merge f.walk (λ i. by i (is_on (pair_of (part_count n) x.entry.event) x.part i) refl))
     where
       first : (i : ℕ) → is_on (pair_of (part_count n) x.entry.event) x.part i ≡ true → (option_and_then (final_on x.entry.event) (after_all (x.entry ∷ []) (at i xs)) ≡ None) × CalmAt (of_part (part_count n) i ys) (after_all (x.entry ∷ []) (at i xs))
       first i on = calm_next x.entry (of_part (part_count n) i ys) (at i xs) (subst (λ es. CalmAt es (at i xs)) (of_first (part_count n) i x ys true on) (calm i))
 
-      here : (end : WorldView) → Front n parts xs x ys end → final_of x.entry.event end ≡ None
-      here end f =
-          let k = length (journals_of parts) in
-          let least : is_least (pair_of k x.entry.event) x.part ≡ true = from_all (λ (y : Placed). is_least (pair_of k y.entry.event) y.part ≡ true) (xs ++ x ∷ ys) x merge.least (among xs ys x) in
-          let on : is_on (pair_of (part_count n) x.entry.event) x.part x.part ≡ true = subst (λ c. is_on (pair_of c x.entry.event) x.part x.part ≡ true) (count_is n parts are) (on_least (pair_of k x.entry.event) x.part least) in
-          tells x.part xs x ys mid end merge f on ∙ (first x.part on).0
+      here : (end : WorldView) → Front n parts xs x (ys ++ zs) end → final_of x.entry.event end ≡ None
+      here end f = tells x.part xs x (ys ++ zs) mid end merge f (on_own xs x (ys ++ zs) merge) ∙ (first x.part (on_own xs x (ys ++ zs) merge)).0
 
       by : (i : ℕ) (b : Bool) → is_on (pair_of (part_count n) x.entry.event) x.part i ≡ b → CalmAt (of_part (part_count n) i ys) (at i (xs ++ x ∷ []))
       by i true on = subst (CalmAt (of_part (part_count n) i ys)) (sym (moved_by i xs x true on)) (first i on).1
@@ -223,9 +226,14 @@ module _ (n : ShapeNumbers) (parts : List StampedView) (link : Behind n) (stampe
       let calm = calm_of [] xs (machine n (starts_of parts)) end merge refl walk quiet i in
       subst (λ es. CalmAt es (slice_get (starts_of parts) i)) (whole_at xs i merge) (subst (CalmAt (of_part (part_count n) i xs)) (after_nothing (slice_get (starts_of parts) i)) calm)
 
+  -- no event of a beginning of the merge is final, if no part ends along it
+  pub front_quiet : (xs ys : List Placed) → IsMergeOf (journals_of parts) (xs ++ ys) → ((i : ℕ) → CalmAt (of_part (part_count n) i xs) (slice_get (starts_of parts) i)) → Quiet (machine n (starts_of parts)) (events_of xs)
+  front_quiet xs ys merge calm = quiet_of [] xs ys (machine n (starts_of parts)) merge refl (λ i.
+      subst (CalmAt (of_part (part_count n) i xs)) (sym (after_nothing (slice_get (starts_of parts) i))) (calm i))
+
   pub merge_quiet : (xs : List Placed) → IsMergeOf (journals_of parts) xs → ((i : ℕ) → CalmAt (entries_at (journals_of parts) i) (slice_get (starts_of parts) i)) → Quiet (machine n (starts_of parts)) (events_of xs)
-  merge_quiet xs merge calm = quiet_of [] xs (machine n (starts_of parts)) merge refl (λ i.
-      subst (CalmAt (of_part (part_count n) i xs)) (sym (after_nothing (slice_get (starts_of parts) i))) (subst (λ es. CalmAt es (slice_get (starts_of parts) i)) (sym (whole_at xs i merge)) (calm i)))
+  merge_quiet xs merge calm = front_quiet xs [] (subst (IsMergeOf (journals_of parts)) (sym (append-nil xs)) merge) (λ i.
+      subst (λ es. CalmAt es (slice_get (starts_of parts) i)) (sym (whole_at xs i merge)) (calm i))
 
 -- ---- in terms of all parts
 

@@ -1,6 +1,10 @@
 pub mod Along
+pub mod Ending
 pub mod Ends
+pub mod Lasting
+pub mod Presents
 pub mod Quiet
 pub mod Replaying
 pub mod Settling
 pub mod Taking
+pub mod Whole

@@ -1,7 +1,7 @@
 -- Parts taken apart, one after the other.
 use Rattle.std.proofs.Common.{◌≡◌, ◌∙◌, ◌<◌, ◌++◌, ◌∷◌, [], List, get_or, length, map, take, refl, sym, ap, arith}
 use Rattle.std.proofs.lemmas.List.{length_push, map-append, take_all, take_more}
-use Rattle.tn_rows.specs.Stamped.{journals_of, starts_of}
+use Rattle.tn_rows.specs.Stamped.{journals_of, presents_of, starts_of}
 use Rattle.tn_stamped.specs.Placed.{PlacedView, stamped_of}
 
 -- the same of one item more
@@ -24,3 +24,7 @@ starts_are (p ∷ ps) = ap (λ vs. p.stamped.start ∷ vs) (starts_are ps)
 pub journals_are : (ps : List PlacedView) → map (λ p. p.stamped.entries) ps ≡ journals_of (stamped_of ps)
 journals_are [] = refl
 journals_are (p ∷ ps) = ap (λ es. p.stamped.entries ∷ es) (journals_are ps)
+
+pub presents_are : (ps : List PlacedView) → map (λ p. p.stamped.present) ps ≡ presents_of (stamped_of ps)
+presents_are [] = refl
+presents_are (p ∷ ps) = ap (λ vs. p.stamped.present ∷ vs) (presents_are ps)
