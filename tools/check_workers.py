@@ -12,6 +12,7 @@ import sys
 
 ENDS = {0, 3, 4, 5, 6}
 TRAPPED, SPENT = 3, 5
+MOST_BYTES = 16_777_216
 EVENTS = {"turn", "deliver", "depart", "arrive", "route", "hostput", "hosttake", "report", "begin", "confirm", "announce", "release", "go"}
 
 
@@ -30,9 +31,10 @@ def run(program, job, workers):
 
 
 def is_run(program, job, events):
-    """Whether `check` accepts the events."""
+    """Whether `check` accepts the events. An input that is too long for `check` is not tried."""
     lines = "".join(event + "\n" for event in events)
-    return call(program, ["check"], job + b"%%\n" + lines.encode()) == (0, b"run %d\n" % len(events))
+    text = job + (b"" if job.endswith(b"\n") else b"\n") + b"%%\n" + lines.encode()
+    return len(text) > MOST_BYTES or call(program, ["check"], text) == (0, b"run %d\n" % len(events))
 
 
 def escaped(lines):
