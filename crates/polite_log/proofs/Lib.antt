@@ -7,3 +7,4 @@ pub mod Making
 pub mod Replaying
 pub mod Sights
 pub mod TileDeeds
+pub mod Waiting

@@ -57,7 +57,7 @@ at_place : (t : ThreadId) (n : ℕ) (w end : WorldView) (o : Option ℕ) → par
 at_place t n w end None e h = cc h
 at_place t n w end (Some p) e h = at_read t n w end p (slice_get w.parts p) e refl h
 
-turn_at : (t : ThreadId) (n : ℕ) (w end : WorldView) → happened (event.Turn t n) w ≡ Some end → TurnAt t n w end
+pub turn_at : (t : ThreadId) (n : ℕ) (w end : WorldView) → happened (event.Turn t n) w ≡ Some end → TurnAt t n w end
 turn_at t n w end h = at_place t n w end (part_of w.shape t) refl h
 
 -- such a turn happens
@@ -67,14 +67,14 @@ happens t n w p v s e f row =
     ∙ (ap (λ (o : Option PartView). option_map (with_part w p) (option_and_then (after (event.Turn t n) crossing.None) o)) f
     ∙ ap (λ (o : Option TileState). option_map (with_part w p) (option_map TileV (now_by v o))) row)
 
-home_is : (t : ThreadId) (w : WorldView) (p : ℕ) (v : TileView) → part_of w.shape t ≡ Some p → slice_get w.parts p ≡ Some (TileV v) → is_here v.plan t.0 ≡ true → home w t ≡ Some v
+pub home_is : (t : ThreadId) (w : WorldView) (p : ℕ) (v : TileView) → part_of w.shape t ≡ Some p → slice_get w.parts p ≡ Some (TileV v) → is_here v.plan t.0 ≡ true → home w t ≡ Some v
 home_is t w p v e f here =
     ap (λ (o : Option ℕ). option_and_then (if_here t) (option_and_then tile_of (option_and_then (slice_get w.parts) o))) e
     ∙ (ap (λ (o : Option PartView). option_and_then (if_here t) (option_and_then tile_of o)) f
     ∙ ap (λ b. cond b (Some v) None) here)
 
 -- the part that was written
-put_there : (w : WorldView) (p : ℕ) (x y : PartView) → slice_get w.parts p ≡ Some x → slice_get (with_part w p y).parts p ≡ Some y
+pub put_there : (w : WorldView) (p : ℕ) (x y : PartView) → slice_get w.parts p ≡ Some x → slice_get (with_part w p y).parts p ≡ Some y
 put_there w p x y e =
     let within = slice_get_within w.parts p x e in
     let long : length (set w.parts p y) ≡ length w.parts = length-set w.parts p y in

@@ -68,7 +68,7 @@ fn push_read(deeds: &mut Vec<Deed>, deed: Option<Deed>) -> Result<(), AllocError
 }
 
 /// The tile that a thread is on.
-fn home<L: Link>(world: &World<L>, t: ThreadId) -> Option<&Tile>
+pub(crate) fn home<L: Link>(world: &World<L>, t: ThreadId) -> Option<&Tile>
     ensures tile { option_copied result ≡ home world.now t }
     ensures here { IfSome result (λ tile. IsTrue (is_here tile.now.plan t.0)) }
 {

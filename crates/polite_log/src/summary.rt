@@ -1,22 +1,26 @@
 //! Figures of a run.
 
-ghost use Rattle.std.specs.Prelude.{◌≡◌, ◌+◌, ◌++◌, IfOk, IsSome, OnOk, count_by};
+ghost use Rattle.std.specs.Prelude.{◌≡◌, ◌+◌, ◌++◌, IfOk, IsSome, IsTrue, OnOk, Some, count_by};
+ghost use Rattle.tn_base.specs.Address.{place_in_tile};
 ghost use Rattle.tn_letters.specs.Steps.{event_steps};
 ghost use Rattle.tn_letters.specs.Tiles.{host_on};
 ghost use Rattle.tn_rows.specs.Events.{happened};
 ghost use Rattle.tn_rows.specs.Runs.{Run};
 ghost use Rattle.tn_rows.specs.WorldView.{WorldView};
+ghost use Rattle.tn_tile.specs.Rows.{is_here};
 ghost use Rattle.polite_log.specs.Summary.{figure_text, is_announce, is_hand, letters_in, second_word, summary_text, word_sum};
+ghost use Rattle.polite_log.specs.Waiting.{gone_or_waiting, waiting_by, waiting_in};
 
 use crate::deeds::make;
+use crate::reading::home;
 use std::alloc::{AllocError, Global};
-use tn_bag::spell::push_event;
 use tn_base::bytes::Bytes;
 use tn_base::event::Event;
+use tn_base::ids::ThreadId;
 use tn_base::message::Letter;
-use tn_letters::steps::BagStep;
 use tn_link::link::Link;
 use tn_pages::stock::PageStock;
+use tn_tile::tile::Tile;
 use tn_world::world::World;
 
 /// The figures of a run of a graph job.
@@ -50,32 +54,7 @@ pub fn announcements(history: &[Event]) -> usize
     history.iter().filter(|event| is_announce(event)).count()
 }
 
-/// Whether a step hands a letter to a thread.
-fn is_hand(step: &BagStep) -> bool
-    ensures { result ≡ is_hand step.now }
-{
-    match step {
-        BagStep::Hand { .. } => true,
-        BagStep::Private { .. }
-        | BagStep::Send { .. }
-        | BagStep::Free { .. }
-        | BagStep::Idle { .. }
-        | BagStep::Announce
-        | BagStep::HostSend { .. }
-        | BagStep::HostHand { .. }
-        | BagStep::Discard { .. } => false,
-    }
-}
-
-/// How many of some steps hand a letter to a thread.
-fn hands(steps: &[BagStep]) -> usize
-    ensures { result ≡ count_by is_hand steps.now }
-{
-    steps.iter().filter(|step| is_hand(step)).count()
-}
-
-/// How many letters were handed to threads in a run. The run is made again on a copy of the start, and only the steps of one event are kept
-/// at a time.
+/// How many letters were handed to threads in a run. The run is made again on one copy of the start, event by event.
 pub fn letters<L: Link>(
     alloc: Global,
     start: &World<L>,
@@ -88,20 +67,68 @@ pub fn letters<L: Link>(
     let mut stock = PageStock::of(alloc);
     let mut world = start.copy()?;
     for event in history {
-        count = total(count, hands_in(alloc, &world, event)?)?;
-        make(&mut world, event, &mut stock)?;
+        let hands = make_and_count(&mut world, event, &mut stock)?;
+        count = total(count, hands)?;
     }
     Ok(count)
 }
 
-/// How many letters an event hands to threads.
-fn hands_in<L: Link>(alloc: Global, world: &World<L>, event: &Event) -> Result<usize, AllocError>
-    requires { IsSome (happened event.now world.now) }
-    ensures { IfOk result (λ n. n ≡ count_by is_hand (event_steps event.now world.now)) }
+/// Makes an event, and returns how many letters it hands to threads: as many as then wait no more, but for those that were dropped.
+fn make_and_count<L: Link>(
+    world: &mut World<L>,
+    event: &Event,
+    stock: &mut PageStock,
+) -> Result<usize, AllocError>
+    requires { IsSome (happened event.now world.old) }
+    ensures made { OnOk result (happened event.now world.old ≡ Some world.new) }
+    ensures hands { IfOk result (λ n. n ≡ count_by is_hand (event_steps event.now world.old)) }
 {
-    let mut steps = Vec::new(alloc);
-    push_event(&mut steps, alloc, world, event)?;
-    Ok(hands(&steps))
+    let before = waiting_by(world, event)?;
+    make(world, event, stock)?;
+    let after = waiting_by(world, event)?;
+    Ok(before - after)
+}
+
+/// How many letters wait for the thread of a turn or were dropped on its tile; 0 for another event.
+fn waiting_by<L: Link>(world: &World<L>, event: &Event) -> Result<usize, AllocError>
+    ensures { IfOk result (λ n. n ≡ waiting_by event.now world.now) }
+{
+    match *event {
+        Event::Turn(t, _) => waiting_in(world, t),
+        Event::Deliver(_)
+        | Event::Depart(_, _)
+        | Event::Arrive(_, _)
+        | Event::Route(_)
+        | Event::HostPut
+        | Event::HostTake
+        | Event::Report(_)
+        | Event::Begin
+        | Event::Confirm(_)
+        | Event::Announce
+        | Event::Release(_)
+        | Event::Go(_) => Ok(0),
+    }
+}
+
+/// How many letters wait for a thread or were dropped on its tile; 0 if the thread is on no tile.
+fn waiting_in<L: Link>(world: &World<L>, t: ThreadId) -> Result<usize, AllocError>
+    ensures { IfOk result (λ n. n ≡ waiting_in t world.now) }
+{
+    match home(world, t) {
+        Some(tile) => gone_or_waiting(tile, t),
+        None => Ok(0),
+    }
+}
+
+/// How many letters wait for a thread of a tile or were dropped on the tile.
+fn gone_or_waiting(tile: &Tile, t: ThreadId) -> Result<usize, AllocError>
+    requires { IsTrue (is_here tile.now.plan t.0) }
+    ensures { IfOk result (λ n. n ≡ gone_or_waiting (place_in_tile tile.now.plan.shape t.0) tile.now.now) }
+{
+    tile.kept();
+    let place = tile.shape().place_in_tile(t);
+    let waiting = tile.pool().queue_len(place);
+    total(waiting as usize, tile.dropped() as usize)
 }
 
 /// The sum of two counts. If no count can be so large, there is no room for the sum.
