@@ -1,3 +1,4 @@
+mod Growing
 mod Laying
 mod Rooms
 mod Slices

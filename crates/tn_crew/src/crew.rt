@@ -74,7 +74,7 @@ fn laid(
     ensures { IfOk result (λ p. IsFresh shape place.0 part p) }
 {
     let stamped = Stamped::of(alloc, part)?;
-    Ok(Placed::of(shape, place, stamped))
+    Placed::of(alloc, shape, place, stamped)
 }
 
 /// The parts of a machine at their places, with empty journals.

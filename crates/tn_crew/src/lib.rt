@@ -1,6 +1,6 @@
-//! The workers of a run in threads: how a worker takes the turns of parts, makes an event on them, and gives the parts back. A worker
-//! has no turn between two events. Notes by which workers tell each other which stops may have something to do are advice: a lost note
-//! costs time, and no event is lost. A stop is a part that is no link.
+//! The workers of a run in threads: how a worker takes the turns of parts, makes events on them, and gives the parts back. A worker
+//! has at most two turns at a time, and soon gives them back. Notes by which workers tell each other which stops may have something to do
+//! are advice: a lost note costs time, and no event is lost. A stop is a part that is no link.
 //!
 //! Read `making` first, then `work`, `worker` and `team`, then `crew` and `run`.
 #![tactic(auto)]

@@ -36,6 +36,27 @@ impl Notes {
         }
     }
 
+    /// Whether some stop of a share is marked.
+    pub fn is_noted(&self, share: Share) -> bool {
+        let mut base = 0u32;
+        for padded in &self.words {
+            let word: &AtomicU64 = padded;
+            if word.load(Ordering::SeqCst) & marks_of(share, base) != 0 {
+                return true;
+            }
+            base = base.wrapping_add(64);
+        }
+        false
+    }
+
+    /// Whether some stop is marked.
+    pub fn is_any(&self) -> bool {
+        self.is_noted(Share {
+            first: 0,
+            end: u32::MAX,
+        })
+    }
+
     /// Clears the mark of one stop of a share. None where no stop of the share was found marked.
     pub fn take(&self, share: Share) -> Option<u32>
         ensures { IfSome result (λ stop. IsOf share stop) }

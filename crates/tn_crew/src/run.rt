@@ -1,6 +1,6 @@
 //! A run of a machine by workers in threads, from its start to its end.
 
-ghost use Rattle.std.specs.Prelude.{◌≡◌, ◌<◌, IfOk, OnOk, true};
+ghost use Rattle.std.specs.Prelude.{◌≡◌, ◌<◌, ◌≤◌, IfOk, OnOk, true};
 ghost use Rattle.tn_crew.specs.Crew.{IsFinished, start_of};
 ghost use Rattle.tn_rows.specs.Cuts.{IsOver};
 ghost use Rattle.tn_rows.specs.Runs.{Run};
@@ -34,7 +34,8 @@ pub fn run_crew<H: Threads + Wait + Sync, G: Gate + Sync>(
     crew.settle(alloc)
 }
 
-/// Workers make events until some part has a final event or no event is enabled.
+/// Workers make events until some part has a final event or no event is enabled. If the workers rest too early, half as many go on. So
+/// one worker goes on in the end, which needs no other worker, where the system makes no more threads.
 fn finish<H: Threads + Wait + Sync, G: Gate + Sync>(
     rt: &H,
     alloc: Global,
@@ -47,12 +48,22 @@ fn finish<H: Threads + Wait + Sync, G: Gate + Sync>(
     ensures start { start_of crew.new ≡ start_of crew.old }
     ensures finished { OnOk result (IsFinished crew.new) }
 {
+    let mut workers = workers;
     for _ in rt.forever() {
         if has_finished(rt, alloc, crew, workers, gate)? {
             return Ok(());
         }
+        workers = half(workers);
     }
     unreachable!()
+}
+
+/// Half as many workers, at least one.
+fn half(workers: u32) -> u32
+    requires { 0 < workers }
+    ensures { (0 < result) × (result ≤ workers) }
+{
+    workers.div_ceil(2)
 }
 
 /// Workers make events for a while. The answer is whether nothing is left to do; if it is false, some event may be enabled.

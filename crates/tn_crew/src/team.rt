@@ -93,6 +93,43 @@ fn run_workers<H: Threads + Wait + Sync, G: Gate + Sync>(
     );
 }
 
+/// All workers work, each on a seat that it gets. No worker works if memory for the seats is refused.
+fn run_on_seats<H: Threads + Wait + Sync, G: Gate + Sync>(
+    rt: &H,
+    alloc: Global,
+    turns: &mut Turns<Placed<PlainLink>>,
+    sites: &Sites,
+    gate: &G,
+    signals: &Signals,
+    workers: u32,
+) -> Vec<TurnSeat<Placed<PlainLink>>>
+    requires new { given_of turns.old ≡ 0 }
+    requires parts { length (firsts (board_of turns.old)) ≡ part_count sites.now }
+    requires some { 0 < workers }
+    requires few { workers < 65 }
+    ensures board { board_of turns.new ≡ board_of turns.old }
+    ensures seats { AllReturned (board_table (board_of turns.old)) result.items }
+    ensures all { length result.items ≡ given_of turns.new }
+{
+    let mut seats = Vec::new(alloc);
+    if seats.reserve(workers as usize).is_err() {
+        signals.refuse();
+        return seats;
+    }
+    seats_of(turns, &mut seats, workers);
+    run_workers(
+        rt,
+        alloc,
+        turns.board(),
+        &mut seats,
+        sites,
+        gate,
+        signals,
+        workers,
+    );
+    seats
+}
+
 /// Workers make events on the parts until nothing is left to try, a journal has a final event, or memory is refused. The parts come back
 /// with the starts that they had, and with journals that agree on every pair.
 pub fn run_team<H: Threads + Wait + Sync, G: Gate + Sync>(
@@ -125,22 +162,7 @@ pub fn run_team<H: Threads + Wait + Sync, G: Gate + Sync>(
             };
         }
     };
-    let mut seats = Vec::new(alloc);
-    if seats.reserve(workers as usize).is_ok() {
-        seats_of(&mut turns, &mut seats, workers);
-        run_workers(
-            rt,
-            alloc,
-            turns.board(),
-            &mut seats,
-            sites,
-            gate,
-            &signals,
-            workers,
-        );
-    } else {
-        signals.refuse();
-    }
+    let seats = run_on_seats(rt, alloc, &mut turns, sites, gate, &signals, workers);
     Team {
         parts: turns.close(seats),
         refused: signals.refused(),

@@ -1,4 +1,4 @@
-//! Events that a worker makes on parts whose turns it takes. Between two events a worker has no turn.
+//! Events that a worker makes on parts whose turns it takes. Before and after `make` a worker has no turn.
 
 ghost use Rattle.std.specs.Prelude.{◌≡◌, ◌≢◌, ◌<◌, MatchOption, Some, length};
 ghost use Rattle.tn_base.specs.declared.event.Event.TheVariants as event;
@@ -72,7 +72,7 @@ fn unless_ended(tried: Tried, part: &Placed<PlainLink>) -> Tried
 }
 
 /// An event on one part alone; a turn becomes the longest turn of its thread.
-fn make_on<G: Gate>(
+pub(crate) fn make_on<G: Gate>(
     part: &mut Placed<PlainLink>,
     sites: &Sites,
     hand: &mut Hand<'_, G>,

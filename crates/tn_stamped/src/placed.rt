@@ -1,6 +1,6 @@
 //! A stamped part at its place: it is what the shape names there, and each event of its journal is on that place.
 
-ghost use Rattle.std.specs.Prelude.{◌≡◌, ◌<◌, ◌≤◌, ◌&&◌, ◌↔◌, is_some, IsTrue, OnOk, Some};
+ghost use Rattle.std.specs.Prelude.{◌≡◌, ◌<◌, ◌≤◌, ◌&&◌, ◌↔◌, is_some, IfOk, IsTrue, OnOk, Some};
 ghost use Rattle.tn_base.specs.declared.event.Event.TheVariants as event;
 ghost use Rattle.tn_stamped.specs.Doing.{DoesOne, DoesTurn, DoesTwoOr, IsReady};
 ghost use Rattle.tn_part.specs.Meeting.{IsNoTurn, port_of};
@@ -11,7 +11,7 @@ ghost use Rattle.tn_rows.specs.Places.{One, Two, places};
 ghost use Rattle.tn_tile.specs.Turns.{StockLasts, moved};
 
 use crate::stamped::Stamped;
-use std::alloc::AllocError;
+use std::alloc::{AllocError, Global};
 use std::marker::Model;
 use tn_base::event::Event;
 use tn_base::ids::{PartId, ThreadId};
@@ -29,7 +29,8 @@ use tn_tile::deliver::Did;
 /// on this place.
 #[derive(Drop)]
 pub struct Placed<L: Link> {
-    stamped: Stamped<L>,
+    /// In a box, so that workers pass the part on without a move of the part itself.
+    stamped: Box<Stamped<L>>,
     shape: Shape,
     place: PartId,
 }
@@ -43,11 +44,11 @@ impl<L: Link> Model for Placed<L> {
 
     ghost Value = { PlacedView };
 
-    ghost view = { λ p. record { stamped = p.stamped; shape = p.shape; place = p.place.0 } };
+    ghost view = { λ p. record { stamped = p.stamped.value; shape = p.shape; place = p.place.0 } };
 
     ghost invariant = { λ p. record {
-      here : All (StandsAt p.shape p.place.0) p.stamped.entries;
-      fits : FitsKind p.shape (kind_of p.shape p.place.0) p.stamped.present;
+      here : All (StandsAt p.shape p.place.0) p.stamped.value.entries;
+      fits : FitsKind p.shape (kind_of p.shape p.place.0) p.stamped.value.present;
     } };
 }
 
@@ -63,16 +64,21 @@ impl<L: Link> Item for Placed<L> {
 
 impl<L: Link> Placed<L> {
     /// A stamped part at its place. The shape names such a part there, and each event of its journal is on this place.
-    pub fn of(shape: Shape, place: PartId, stamped: Stamped<L>) -> Placed<L>
+    pub fn of(
+        alloc: Global,
+        shape: Shape,
+        place: PartId,
+        stamped: Stamped<L>,
+    ) -> Result<Placed<L>, AllocError>
         requires here { StandsHere (record { stamped = stamped; shape = shape; place = place.0 }) }
         requires fits { FitsHere (record { stamped = stamped; shape = shape; place = place.0 }) }
-        ensures { result ≡ record { stamped = stamped; shape = shape; place = place.0 } }
+        ensures { IfOk result (λ p. p ≡ record { stamped = stamped; shape = shape; place = place.0 }) }
     {
-        Placed {
-            stamped,
+        Ok(Placed {
+            stamped: Box::new(alloc, stamped)?,
             shape,
             place,
-        }
+        })
     }
 
     /// Makes room for one entry.
@@ -111,7 +117,7 @@ impl<L: Link> Placed<L> {
     pub fn into_stamped(self) -> Stamped<L>
         ensures { result ≡ self.stamped }
     {
-        self.stamped
+        Box::into_inner(self.stamped)
     }
 
     /// The longest turn of a thread that is on this part, with pages of a full stock, and whether the turn ends a run.

@@ -1,4 +1,4 @@
-use Rattle.std.proofs.Common.{◌≡◌, ◌≤◌}
+use Rattle.std.proofs.Common.{◌≡◌}
 use Rattle.tn_crew.proofs.worker.work_on.Given as goal
 use Rattle.tn_turns.specs.Ready.{IsReady}
 use Rattle.tn_turns.specs.Words.{board_table, number_of}
@@ -7,5 +7,4 @@ abbrev pub invariant-loop : goal.invariant-loop
 invariant-loop g l = record {
   ready : IsReady (board_table l.board) l.seat;
   number : number_of l.seat ≡ number_of l.fn.seat;
-  idle : l.idle ≤ 64;
 }
