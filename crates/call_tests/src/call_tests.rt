@@ -142,7 +142,7 @@ fn calls_so<H: Threads + Wait + Sync>(
 /// `run` on a job that ends, over a source and a sink that do not fail.
 const RUN: Case = Case {
     top: Top::Run,
-    words: &["run"],
+    words: &["run", "--workers", "1"],
     input: TWO,
     zeros: 0,
     source: (4096, &[]),
@@ -267,13 +267,13 @@ static CASES: [Case; 31] = [
     },
     // The events of the run are written before the report. The sink fails among them.
     Case {
-        words: &["run", "--trace", "--workers=64"],
+        words: &["run", "--trace", "--workers=1"],
         written: b"turn 0 2\nturn 1 2\nreport 0\nreport 1\nreport 2\nbegin\nconfirm 0\nconfirm 1\n\
             confirm 2\nannounce\nexit 0 0\nexit 1 1\ndone\n",
         ..RUN
     },
     Case {
-        words: &["run", "--trace"],
+        words: &["run", "--workers", "1", "--trace"],
         sink: (4, &[2]),
         status: Status::WriteFault,
         written: b"turn 0 2",

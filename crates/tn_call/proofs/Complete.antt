@@ -1,11 +1,11 @@
 -- If no fault rose and memory was there, a call answers for its input: once for all commands.
-use Rattle.std.proofs.Common.{◌≡◌, ◌≢◌, ℕ, ◌≤◌, ◌<◌, Bool, true, false, List, [], ◌++◌, length, Option, None, Some, inl, inr, refl, sym, ap, subst, ◌∙◌, append-nil, length-append, arith}
+use Rattle.std.proofs.Common.{◌≡◌, ◌≢◌, ℕ, ◌≤◌, Bool, true, false, List, ◌++◌, length, Option, None, Some, inl, inr, refl, sym, ap, subst, ◌∙◌, append-nil, length-append, arith}
 use Rattle.std.specs.Bool.{MatchBool}
 use Rattle.std.specs.Io.KnownBytes.{Consumes}
 use Rattle.tn_io.specs.Whole.{IsWhole}
 use Rattle.tn_call.specs.declared.status.Status.{Status}
 use Rattle.tn_call.specs.declared.status.Status.TheVariants.{Done, Usage, Refused, Trapped, BadKey, Spent, Jammed, ReadFault, WriteFault, Memory, TooLong}
-use Rattle.tn_call.specs.Answers.{Answers, Completes, Finishes, IsCalm, IsTold, Takes}
+use Rattle.tn_call.specs.Answers.{Answers, Completes, Finishes, IsCalm, Takes}
 use Rattle.tn_call.specs.Streams.{Leaves, Reads, Streams, most_bytes}
 
 -- all that was left is all that is told

@@ -1,5 +1,6 @@
 //! A call: the words and the input are read, and the answer is written.
 ghost use Rattle.std.specs.Prelude.{◌≡◌, ◌≢◌, true, false, map, option_and_then, string_bytes};
+ghost use Rattle.tn_call.specs.Answering.{GivesAnswers, TakesInputs};
 ghost use Rattle.tn_call.specs.Answers.{Answers, Completes, IsCalm, form_reads};
 ghost use Rattle.tn_call.specs.Number.{is_silent};
 ghost use Rattle.tn_call.specs.Streams.{stream, streams};
@@ -7,9 +8,9 @@ ghost use Rattle.tn_call.specs.declared.status.Status.TheVariants as Status;
 ghost use Rattle.tn_words.specs.Forms.{form_of};
 ghost use Rattle.tn_words.specs.Gives.{Gives};
 
-use crate::service::Service;
+use crate::service::{Answer, Service};
 use crate::status::Status;
-use std::alloc::Global;
+use std::alloc::{AllocError, Global};
 use tn_io::sink::Sink;
 use tn_io::source::Source;
 use tn_io::whole::{ReadStop, read_all, write_all};
@@ -47,14 +48,17 @@ fn unanswered<S: Service>(alloc: Global, status: Status) -> Called<S::Kept>
     }
 }
 
-/// Reads the words, and the source if the command reads it. Writes the command's answer to the input into the sink.
-pub fn call<S: Service, R: Source, W: Sink>(
-    alloc: Global,
-    service: &S,
-    words: &[String],
-    source: &mut R,
-    sink: &mut W,
-) -> Called<S::Kept>
+/// Reads the words, and the source if the command reads it. Writes the command's answer to the input into the sink. The closure gives the
+/// answer. There is no input if the command reads none.
+pub fn call<
+    S: Service,
+    R: Source,
+    W: Sink,
+    A: FnOnce(S::Served, &[u8]) -> Result<Answer<S::Kept>, AllocError>,
+>(alloc: Global, words: &[String], source: &mut R, sink: &mut W, answer: A) -> Called<S::Kept>
+    requires takes { TakesInputs (A.pre answer) }
+    requires gives { GivesAnswers S.answer (A.post answer) }
+
     // Each status with its cause.
     ensures cause { Answers S.reads S.answer S.fresh result.status (option_and_then S.served (form_of (map string_bytes words.now)))
         (streams (stream R.left R.faults source.old) (stream R.left R.faults source.new) (stream W.written W.faults sink.old) (stream W.written W.faults sink.new))
@@ -74,17 +78,18 @@ pub fn call<S: Service, R: Source, W: Sink>(
     // If the status is Usage, ReadFault, TooLong or Memory, the sink is as it was.
     ensures unwritten { is_silent result.status ≡ true → sink.new ≡ sink.old }
 {
-    carry_out(alloc, service, words, source, sink)
+    carry_out::<S, R, W, A>(alloc, words, source, sink, answer)
 }
 
 /// The call, of which each status has its cause.
-fn carry_out<S: Service, R: Source, W: Sink>(
-    alloc: Global,
-    service: &S,
-    words: &[String],
-    source: &mut R,
-    sink: &mut W,
-) -> Called<S::Kept>
+fn carry_out<
+    S: Service,
+    R: Source,
+    W: Sink,
+    A: FnOnce(S::Served, &[u8]) -> Result<Answer<S::Kept>, AllocError>,
+>(alloc: Global, words: &[String], source: &mut R, sink: &mut W, answer: A) -> Called<S::Kept>
+    requires takes { TakesInputs (A.pre answer) }
+    requires gives { GivesAnswers S.answer (A.post answer) }
     ensures cause { Answers S.reads S.answer S.fresh result.status (option_and_then S.served (form_of (map string_bytes words.now)))
         (streams (stream R.left R.faults source.old) (stream R.left R.faults source.new) (stream W.written W.faults sink.old) (stream W.written W.faults sink.new))
         result.kept }
@@ -104,7 +109,7 @@ fn carry_out<S: Service, R: Source, W: Sink>(
     } else {
         Vec::new(alloc)
     };
-    let Ok(answer) = service.answer(alloc, command, input.as_slice()) else {
+    let Ok(answer) = answer(command, input.as_slice()) else {
         return unanswered::<S>(alloc, Status::Memory);
     };
     let status = match write_all(sink, answer.text.as_slice()) {

@@ -1,12 +1,11 @@
 //! The commands that a call serves.
-ghost use Rattle.std.specs.Prelude.{◌≡◌, ◌≤◌, ℕ, Bool, true, List, IfOk, length};
+ghost use Rattle.std.specs.Prelude.{◌≡◌, ℕ, Bool, List};
 ghost use Rattle.std.specs.declared.option.Option.{Option};
-ghost use Rattle.tn_call.specs.Number.{tells};
 ghost use Rattle.tn_call.specs.declared.status.Status.{Status};
 ghost use Rattle.tn_words.specs.declared.command.Command.{Command};
 
 use crate::status::Status;
-use std::alloc::{AllocError, Global};
+use std::alloc::Global;
 use tn_words::command::Command;
 
 /// What a command answers: the status, the text that is to be written, and what is to be kept.
@@ -47,15 +46,4 @@ pub trait Service {
     /// What is kept of a call that answers no input.
     fn nothing(alloc: Global) -> Self::Kept
         ensures { fresh result };
-
-    /// The answer to an input. There is no input if the command reads none.
-    fn answer(
-        &self,
-        alloc: Global,
-        command: Self::Served,
-        input: &[u8],
-    ) -> Result<Answer<Self::Kept>, AllocError>
-        requires { length input.now ≤ 16777216 }
-        ensures answers { IfOk result (λ a. answer command input.now a.kept a.status a.text.items) }
-        ensures tells { IfOk result (λ a. tells a.status ≡ true) };
 }

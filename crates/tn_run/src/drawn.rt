@@ -18,10 +18,13 @@ use polite_log::received::received;
 use polite_log::summary::{Summary, announcements, host_sum, letters, push_summary};
 use std::alloc::{AllocError, Global};
 use std::marker::Model;
+use std::sync::Wait;
+use std::thread::Threads;
 use tn_base::event::{Event, Outcome};
 use tn_call::service::Answer;
 use tn_gen::job::generate;
 use tn_gen::laws::law_short;
+use tn_io::gate::Gate;
 use tn_link::plain::PlainLink;
 use tn_world::world::World;
 
@@ -110,8 +113,11 @@ fn figures_text(
 }
 
 /// Runs the machine of a drawn job, and writes the figures of the run.
-fn run_drawn(
+fn run_drawn<H: Threads + Wait + Sync, G: Gate + Sync>(
+    rt: &H,
+    gate: &G,
     alloc: Global,
+    workers: u32,
     size: GraphSize,
     start: World<PlainLink>,
 ) -> Result<Answer<Kept>, AllocError>
@@ -120,7 +126,7 @@ fn run_drawn(
     ensures tells { IfOk result (λ a. tells a.status ≡ true) }
 {
     let count = size.count();
-    let run = play_out(start)?;
+    let run = play_out(rt, gate, alloc, workers, start)?;
     let text = figures_text(
         alloc,
         count,
@@ -133,8 +139,11 @@ fn run_drawn(
 }
 
 /// Draws a job of this start with so many vertices, runs its machine, and writes the figures of the run.
-pub(crate) fn answer_drawn(
+pub(crate) fn answer_drawn<H: Threads + Wait + Sync, G: Gate + Sync>(
+    rt: &H,
+    gate: &G,
     alloc: Global,
+    workers: u32,
     start: u32,
     size: GraphSize,
 ) -> Result<Answer<Kept>, AllocError>
@@ -144,7 +153,7 @@ pub(crate) fn answer_drawn(
     law_short();
     let job = generate(alloc, start, size.count())?;
     match load_input(alloc, &job) {
-        Ok(world) => run_drawn(alloc, size, world),
+        Ok(world) => run_drawn(rt, gate, alloc, workers, size, world),
         Err(LoadStop::Memory) => Err(AllocError),
         Err(LoadStop::Fault(fault)) => refused(alloc, fault, Kept::new(alloc)),
     }

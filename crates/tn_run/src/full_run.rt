@@ -2,19 +2,26 @@
 ghost use Rattle.std.specs.Prelude.{⊤, true, ◌≡◌, IfOk, MatchOption};
 ghost use Rattle.tn_call.specs.Number.{tells};
 ghost use Rattle.tn_letters.specs.Law.{IsStart};
+ghost use Rattle.tn_rows.specs.Cuts.{IsOver};
 ghost use Rattle.tn_rows.specs.Ends.{IsOutcome, final_after, last_of};
 ghost use Rattle.tn_rows.specs.Events.{Rests};
+ghost use Rattle.tn_rows.specs.Runs.{Run};
 ghost use Rattle.tn_run.specs.FullRun.{IsFullRun, IsKeptRun};
 
 use crate::history::History;
 use crate::kept::Kept;
 use job_edges::laws::law_graph_edges;
-use std::alloc::AllocError;
+use std::alloc::{AllocError, Global};
+use std::sync::Wait;
+use std::thread::Threads;
 use tn_bag::laws::law_flight;
 use tn_base::event::{Event, Outcome};
 use tn_call::service::Answer;
 use tn_call::status::Status;
+use tn_crew::run::run_crew;
+use tn_io::gate::Gate;
 use tn_link::plain::PlainLink;
+use tn_settle::settle::Settled;
 use tn_world::events::final_of;
 use tn_world::play::play;
 use tn_world::world::World;
@@ -71,18 +78,60 @@ fn outcome_of(world: &World<PlainLink>, history: &[Event]) -> Outcome
     }
 }
 
-/// Runs a machine from its start to its end. Each event is enabled after the events before it, and after the last event none is, or that
-/// event is final. The run is one of the bag machine, since the machine is at its start.
-pub(crate) fn play_out(start: World<PlainLink>) -> Result<FullRun, AllocError>
-    requires { IsStart start }
-    ensures start { IfOk result (λ r. r.start ≡ start) }
-    ensures full { IfOk result (λ r. IsFullRun r.start r.history.items r.end r.outcome) }
+/// Runs a machine to its end on this thread alone.
+fn play_alone(start: World<PlainLink>) -> Result<Settled<PlainLink>, AllocError>
+    ensures start { IfOk result (λ s. s.start ≡ start) }
+    ensures run { IfOk result (λ s. Run s.start s.history.items s.end) }
+    ensures over { IfOk result (λ s. IsOver s.history.items s.end) }
 {
     let mut end = start.copy()?;
     let history = play(&mut end, MOST_EVENTS)?;
     if history.len() as u64 >= MOST_EVENTS {
         return Err(AllocError);
     }
+    Ok(Settled {
+        start,
+        end,
+        history,
+    })
+}
+
+/// Runs a machine to its end with so many workers: by threads if the number is from 2 to 64, and on this thread alone else.
+fn play_with<H: Threads + Wait + Sync, G: Gate + Sync>(
+    rt: &H,
+    gate: &G,
+    alloc: Global,
+    workers: u32,
+    start: World<PlainLink>,
+) -> Result<Settled<PlainLink>, AllocError>
+    ensures start { IfOk result (λ s. s.start ≡ start) }
+    ensures run { IfOk result (λ s. Run s.start s.history.items s.end) }
+    ensures over { IfOk result (λ s. IsOver s.history.items s.end) }
+{
+    match workers {
+        2..=64 => run_crew(rt, alloc, start, workers, gate),
+        _ => play_alone(start),
+    }
+}
+
+/// Runs a machine with so many workers, from its start to its end. Each event is enabled after the events before it, and after the last
+/// event none is, or that event is final. The run is one of the bag machine, since the machine is at its start.
+pub(crate) fn play_out<H: Threads + Wait + Sync, G: Gate + Sync>(
+    rt: &H,
+    gate: &G,
+    alloc: Global,
+    workers: u32,
+    start: World<PlainLink>,
+) -> Result<FullRun, AllocError>
+    requires { IsStart start }
+    ensures start { IfOk result (λ r. r.start ≡ start) }
+    ensures full { IfOk result (λ r. IsFullRun r.start r.history.items r.end r.outcome) }
+{
+    let Settled {
+        start,
+        end,
+        history,
+    } = play_with(rt, gate, alloc, workers, start)?;
     law_flight(&start, &history, &end);
     law_graph_edges();
     let outcome = outcome_of(&end, &history);

@@ -19,23 +19,26 @@ use job_faults::fault::LoadStop;
 use job_faults::text::job_said;
 use job_load::load::load;
 use std::alloc::{AllocError, Global};
+use std::sync::Wait;
+use std::thread::Threads;
 use tn_base::event::{Event, Outcome};
 use tn_call::service::{Answer, Service};
+use tn_io::gate::Gate;
 use tn_link::plain::PlainLink;
 use tn_text::lines::law_line_count;
 use tn_trace::print::print_events;
 use tn_words::command::Command;
 use tn_world::world::World;
 
-/// A command that runs a machine. The machine is run on one thread yet, whatever the number of workers.
+/// A command that runs a machine.
 #[derive(Clone, Copy, PartialEq, Eq, Debug)]
 pub enum MachineCommand {
-    /// Runs a job.
+    /// Runs a job with so many workers.
     Run {
         workers: u32,
         trace: bool,
     },
-    /// Runs the job that is drawn of this start, with so many vertices.
+    /// Runs the job that is drawn of this start, with so many vertices, by so many workers.
     Gen {
         start: u32,
         size: GraphSize,
@@ -84,25 +87,39 @@ fn run_text(
     Ok(text)
 }
 
-/// Runs a machine and reports.
-fn run(alloc: Global, trace: bool, start: World<PlainLink>) -> Result<Answer<Kept>, AllocError>
+/// Runs a machine with so many workers, and reports.
+fn run<H: Threads + Wait + Sync, G: Gate + Sync>(
+    rt: &H,
+    gate: &G,
+    alloc: Global,
+    workers: u32,
+    trace: bool,
+    start: World<PlainLink>,
+) -> Result<Answer<Kept>, AllocError>
     requires { IsStart start }
     ensures answers { IfOk result (λ a. IsRunOf trace start a.kept a.status a.text.items) }
     ensures tells { IfOk result (λ a. tells a.status ≡ true) }
 {
-    let run = play_out(start)?;
+    let run = play_out(rt, gate, alloc, workers, start)?;
     let text = run_text(alloc, trace, &run.history, &run.end, run.outcome)?;
     Ok(run.answered(text))
 }
 
-/// The answer to a job.
-fn answer_job(alloc: Global, trace: bool, input: &[u8]) -> Result<Answer<Kept>, AllocError>
+/// The answer to a job that so many workers run.
+fn answer_job<H: Threads + Wait + Sync, G: Gate + Sync>(
+    rt: &H,
+    gate: &G,
+    alloc: Global,
+    workers: u32,
+    trace: bool,
+    input: &[u8],
+) -> Result<Answer<Kept>, AllocError>
     requires { length input.now ≤ 16777216 }
     ensures answers { IfOk result (λ a. IsAnswerOf trace (machine_of input.now) a.kept a.status a.text.items) }
     ensures tells { IfOk result (λ a. tells a.status ≡ true) }
 {
     match load_input(alloc, input) {
-        Ok(start) => run(alloc, trace, start),
+        Ok(start) => run(rt, gate, alloc, workers, trace, start),
         Err(LoadStop::Memory) => Err(AllocError),
         Err(LoadStop::Fault(fault)) => refused(alloc, fault, Kept::new(alloc)),
     }
@@ -118,6 +135,30 @@ fn gen_of(start: u32, count: u32, workers: u32) -> Option<MachineCommand>
         size,
         workers,
     })
+}
+
+/// The answer of a command to an input. There is no input if the command reads none.
+pub(crate) fn answer_machine<H: Threads + Wait + Sync, G: Gate + Sync>(
+    rt: &H,
+    gate: &G,
+    alloc: Global,
+    command: MachineCommand,
+    input: &[u8],
+) -> Result<Answer<Kept>, AllocError>
+    requires { length input.now ≤ 16777216 }
+    ensures answers { IfOk result (λ a. machine_answer command input.now a.kept a.status a.text.items) }
+    ensures tells { IfOk result (λ a. tells a.status ≡ true) }
+{
+    match command {
+        MachineCommand::Run { workers, trace } => {
+            answer_job(rt, gate, alloc, workers, trace, input)
+        }
+        MachineCommand::Gen {
+            start,
+            size,
+            workers,
+        } => answer_drawn(rt, gate, alloc, workers, start, size),
+    }
 }
 
 impl Service for MachineService {
@@ -160,21 +201,5 @@ impl Service for MachineService {
 
     fn nothing(alloc: Global) -> Kept {
         Kept::new(alloc)
-    }
-
-    fn answer(
-        &self,
-        alloc: Global,
-        command: MachineCommand,
-        input: &[u8],
-    ) -> Result<Answer<Kept>, AllocError> {
-        match command {
-            MachineCommand::Run { workers: _, trace } => answer_job(alloc, trace, input),
-            MachineCommand::Gen {
-                start,
-                size,
-                workers: _,
-            } => answer_drawn(alloc, start, size),
-        }
     }
 }

@@ -191,7 +191,11 @@ fn answer_made(alloc: Global, making: Making, input: &[u8]) -> Result<Answer<()>
 }
 
 /// The answer to a text.
-fn answer_text(alloc: Global, command: TextCommand, input: &[u8]) -> Result<Answer<()>, AllocError>
+pub(crate) fn answer_text(
+    alloc: Global,
+    command: TextCommand,
+    input: &[u8],
+) -> Result<Answer<()>, AllocError>
     requires { length input.now ≤ 16777216 }
     ensures answers { IfOk result (λ a. text_answer command input.now a.kept a.status a.text.items) }
     ensures tells { IfOk result (λ a. tells a.status ≡ true) }
@@ -236,13 +240,4 @@ impl Service for TextService {
     }
 
     fn nothing(_alloc: Global) {}
-
-    fn answer(
-        &self,
-        alloc: Global,
-        command: TextCommand,
-        input: &[u8],
-    ) -> Result<Answer<()>, AllocError> {
-        answer_text(alloc, command, input)
-    }
 }

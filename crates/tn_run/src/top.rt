@@ -1,5 +1,5 @@
 //! The top calls.
-ghost use Rattle.std.specs.Prelude.{◌≡◌, true, false, map, string_bytes};
+ghost use Rattle.std.specs.Prelude.{◌≡◌, ◌≤◌, length, true, false, map, string_bytes};
 ghost use Rattle.tn_call.specs.Number.{is_silent};
 ghost use Rattle.tn_call.specs.Streams.{stream, streams};
 ghost use Rattle.tn_call.specs.declared.status.Status.TheVariants as Status;
@@ -9,8 +9,8 @@ ghost use Rattle.tn_run.specs.Texts.{PlainAnswers, PlainCompletes};
 ghost use Rattle.tn_run.specs.Words.{is_for_machine, is_gen};
 
 use crate::kept::Kept;
-use crate::machine::MachineService;
-use crate::texts::TextService;
+use crate::machine::{MachineCommand, MachineService, answer_machine};
+use crate::texts::{TextCommand, TextService, answer_text};
 use crate::words::is_for_machine;
 use std::alloc::Global;
 use std::sync::Wait;
@@ -24,15 +24,16 @@ use tn_io::source::Source;
 /// Serves the commands that run a machine. `run` reads a job from the source, runs its machine, and writes the report into the sink. `gen` draws
 /// a job, runs its machine, and writes the figures of the run. What the run was is kept.
 ///
-/// The handle and the gate are not used yet: the machine is run on one thread.
+/// If the words ask for more than one worker, the machine is run by threads of the handle, which pass the gate. What is kept and written is
+/// then one run of the machine, whatever the threads did: a run that one thread could have made.
 #[tactic(auto, using(crate::proofs::Drawing::gen_unread))]
 pub fn run_top<H: Threads + Wait + Sync, R: Source, W: Sink, G: Gate + Sync>(
-    _rt: &H,
+    rt: &H,
     alloc: Global,
     words: &[String],
     source: &mut R,
     sink: &mut W,
-    _gate: &G,
+    gate: &G,
     kept: &mut Kept,
 ) -> Status
     // Each status with its cause.
@@ -54,7 +55,10 @@ pub fn run_top<H: Threads + Wait + Sync, R: Source, W: Sink, G: Gate + Sync>(
     // If the status is Usage, ReadFault, TooLong or Memory, the sink is as it was.
     ensures unwritten { is_silent result ≡ true → sink.new ≡ sink.old }
 {
-    let called = call(alloc, &MachineService, words, source, sink);
+    let answer = |command: MachineCommand, input: &[u8]|
+        requires { length input.now ≤ 16777216 }
+    { answer_machine(rt, gate, alloc, command, input) };
+    let called = call::<MachineService, R, W, _>(alloc, words, source, sink, answer);
     *kept = called.kept;
     called.status
 }
@@ -81,7 +85,10 @@ pub fn plain_top<R: Source, W: Sink>(
     // If the status is Usage, ReadFault, TooLong or Memory, the sink is as it was.
     ensures unwritten { is_silent result ≡ true → sink.new ≡ sink.old }
 {
-    call(alloc, &TextService, words, source, sink).status
+    let answer = |command: TextCommand, input: &[u8]|
+        requires { length input.now ≤ 16777216 }
+    { answer_text(alloc, command, input) };
+    call::<TextService, R, W, _>(alloc, words, source, sink, answer).status
 }
 
 /// Hands the words to `run_top` if their first word names a command that runs a machine, and to `plain_top` else.

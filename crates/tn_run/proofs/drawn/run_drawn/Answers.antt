@@ -1,7 +1,7 @@
 use Rattle.tn_run.proofs.drawn.run_drawn.Goals as goal
 
 pub returns-clause-answers : goal.returns-clause-answers
-returns-clause-answers c = record {
+returns-clause-answers g c = record {
   end = c.in_ok-run.run'.end;
   outcome = c.in_ok-run.run'.outcome;
   kept_run = rw c.in_ok-run.ensures.start at c.answered.ensures.run;
