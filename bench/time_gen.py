@@ -1,13 +1,14 @@
-"""Times the run of a drawn graph.
+"""Times the run of a drawn graph with 1, 2 and 4 workers.
 
     time_gen.py PROGRAM [ROUNDS]
 
 Runs `PROGRAM gen 7 4096` ROUNDS times (5 if ROUNDS is left out), and takes the least user time, less that of `gen 7 1`. What is written is
 compared with what it must be. Prints the received messages a second, and what one costs in steps of a thread that jumps to itself in the
-same run. The time is that of the whole command: the job is drawn, read, placed and routed, its machine is run, and the run is made again
-to count the letters, and again to count the received messages.
+same run. Then it prints the received messages a second by the clock with 1, 2 and 4 workers. The time is that of the whole command: the job is
+drawn, read, placed and routed, its machine is run, and the run is made again to count the letters, and again to count the received messages.
 """
 import sys
+import time
 
 from timing import user_time
 
@@ -26,10 +27,20 @@ def main():
     def least(words, job, want):
         return min(user_time(program, job, want, words) for _ in range(rounds))
 
-    step = (least(["run"], SPIN, "spent 0\n") - least(["run"], END, "exit 0 0\ndone\n")) / STEPS
-    graph = least(["gen", str(START), str(VERTICES)], "", FIGURES) - least(["gen", str(START), "1"], "", LEAST)
+    step = (least(["run", "--workers", "1"], SPIN, "spent 0\n") - least(["run", "--workers", "1"], END, "exit 0 0\ndone\n")) / STEPS
+    one = ["--workers", "1"]
+    graph = least(["gen", str(START), str(VERTICES), *one], "", FIGURES) - least(["gen", str(START), "1", *one], "", LEAST)
     message = graph / RECEIVED
     print(f"gen {START} {VERTICES}: {1e-6 / message:.3f} million received messages a second, one is {message / step:.0f} steps of spin")
+
+    def clock(workers):
+        begin = time.monotonic()
+        user_time(program, "", FIGURES, ["gen", str(START), str(VERTICES), "--workers", str(workers)])
+        return time.monotonic() - begin
+
+    for workers in (1, 2, 4):
+        took = min(clock(workers) for _ in range(rounds))
+        print(f"by the clock, {workers} workers: {1e-6 * RECEIVED / took:.3f} million received messages a second")
 
 
 main()

@@ -58,7 +58,7 @@ class Graph:
 
     def share(self, program):
         """The share of the softswitch in the steps of a run."""
-        trace = subprocess.run([program, "run", "--trace"], input=self.job(), capture_output=True, text=True, check=True).stdout
+        trace = subprocess.run([program, "run", "--workers", "1", "--trace"], input=self.job(), capture_output=True, text=True, check=True).stdout
         steps = sum(int(line.split()[2]) for line in trace.splitlines() if line.startswith("turn "))
         return 1 - sum(len(lines) * self.calls[name] for name, lines in self.handlers.items()) / steps
 

@@ -41,10 +41,10 @@ def main():
         empty, _ = user_time([interp, "table", none, "4096", "1"], args.runs)
         spun, _ = user_time([interp, "table", jump, "4096", str(STEPS)], args.runs)
         times["table"].append(spun - empty)
-        empty, text = user_time([args.program, "run"], args.runs, HEAD + KILL + "\nend\n")
+        empty, text = user_time([args.program, "run", "--workers", "1"], args.runs, HEAD + KILL + "\nend\n")
         if text != "exit 0 0\ndone\n":
             sys.exit(f"time_spin: the empty job wrote {text!r}")
-        spun, text = user_time([args.program, "run"], args.runs, HEAD + JUMP + "\nend\n")
+        spun, text = user_time([args.program, "run", "--workers", "1"], args.runs, HEAD + JUMP + "\nend\n")
         if text != "spent 0\n":
             sys.exit(f"time_spin: the spinning job wrote {text!r}")
         times["product"].append(spun - empty)
